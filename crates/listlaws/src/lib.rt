@@ -1,0 +1,1 @@
+// Laws on lists that several layers cite: proofs/. No functions.

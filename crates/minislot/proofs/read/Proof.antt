@@ -1,0 +1,33 @@
+-- `read` gives the reading of a word and a count: each return by the law of its kind of word. Assumes nothing.
+use mathlib.Core.Path.{_∙_, sym}
+use native.Mathlib.Omega.{arith}
+use Rattle.minislot.proofs.Readings.{reads-1, reads-empty, reads-2, reads-single, reads-collide}
+use borrow.Author.Needs.{needs}
+use Rattle.minislot.proofs.read.Statement.{statement}
+use Rattle.minislot.proofs.read.Tie as tie
+
+returns : tie.Need-returns
+returns c = sym (reads-1 _ _ (omega arith))
+
+empty-requires : tie.Need-empty-requires
+empty-requires c κs = search needs
+
+returns-2 : tie.Need-returns-2
+returns-2 c = c .empty .ensures ∙ sym (reads-empty _ _ (omega arith) (c .before .if2 .taken))
+
+returns-3 : tie.Need-returns-3
+returns-3 c = sym (reads-2 _ _ (omega arith) (omega arith) (c .if3 .taken))
+
+single-requires : tie.Need-single-requires
+single-requires c κs = search needs
+
+returns-4 : tie.Need-returns-4
+returns-4 c = c .single .ensures ∙ sym (reads-single _ _ (omega arith) (c .before .if4 .taken))
+
+returns-5 : tie.Need-returns-5
+returns-5 c = sym (reads-collide _ _ (omega arith) (omega arith))
+
+pub read-spec : {M : Type 1} → statement M
+read-spec =
+    tie.close
+    (tie.spec returns empty-requires returns-2 returns-3 single-requires returns-4 returns-5)

@@ -1,0 +1,44 @@
+-- Several senders in one minislot (paper: the OR of their words and the OR of their counts; none gives 0 and 0), and what is to be read of
+-- them. Assumes nothing.
+use mathlib.Core.Path.{_≡_}
+use mathlib.Core.List.{List, [], _∷_, map}
+use Prim.Native.Nat.{ℕ, _≤_, _<_}
+use lib.Bits.{bitOr}
+use Rattle.pattern.specs.Patterns.{wordOf}
+use Rattle.minislot.specs.declared.Minislot.{Minislot}
+use Rattle.minislot.specs.declared.Feedback.{Feedback}
+use Rattle.minislot.specs.declared.Feedback.the-variants.{Empty, Single, Collide}
+
+-- one sender's request: the index of its pattern, and its message's slot total
+pub record Request : Type 0 where
+  pub index : ℕ
+  pub total : ℕ
+
+-- what a request carries: the sender's word, and the total as the count
+abbrev pub carries : Request → Minislot
+carries r = record { word = wordOf (r .index); count = r .total }
+
+abbrev pub silent : Minislot
+silent = record { word = 0; count = 0 }
+
+abbrev pub joined : Minislot → Minislot → Minislot
+joined a b = record { word = bitOr (a .word) (b .word); count = bitOr (a .count) (b .count) }
+
+unfoldable pub together : List Minislot → Minislot
+together [] = silent
+together (a ∷ l) = joined a (together l)
+
+-- who spoke alone, for how many slots; or that nobody did, or two or more
+abbrev pub spoken : List Request → Feedback
+spoken [] = Empty
+spoken (r ∷ []) = Single (r .index) (r .total)
+spoken (r ∷ s ∷ l) = Collide
+
+-- requests that a minislot can get: patterns' indexes, no two of them equal, and totals of 1 or more
+abbrev pub Apart : ℕ → List Request → Type 0
+Apart i [] = Unit {0}
+Apart i (r ∷ l) = (r .index ≡ i → ⊥) × Apart i l
+
+abbrev pub Proper : List Request → Type 0
+Proper [] = Unit {0}
+Proper (r ∷ l) = (r .index < 924) × (1 ≤ r .total) × Apart (r .index) l × Proper l
