@@ -17,7 +17,7 @@ use Rattle.minislot.specs.declared.Reading.{Reading}
 use Rattle.minislot.specs.declared.Reading.the-variants.{Heard, Refused}
 use Rattle.minislot.specs.declared.MinislotFeedback.{MinislotFeedback}
 use Rattle.minislot.specs.Reading.{readingOf}
-use Rattle.minislot.specs.Row.{readings, firstNumber, feedbacks, weight, weightOf, padded, rowAnswer, minislotsOf, hasMinislots, rowOf, rowAtOf}
+use Rattle.minislot.specs.Row.{readings, firstNumber, feedbacks, weight, weightOf, padded, feedbackIn, rowAnswer, minislotsOf, hasMinislots, rowOf, rowAtOf}
 
 -- ---- the readings of a row
 
@@ -60,6 +60,14 @@ unfolding padded
 padded-more zero l f h = absurd (not-suc-le-zero h)
 padded-more (suc n) [] f h = refl
 padded-more (suc n) (g ∷ l) f h = ap (λ (r : List MinislotFeedback). record { feedback = g } ∷ r) (padded-more n l f (le-of-suc-le-suc h))
+
+-- an array of n holds a list of as many or fewer
+pub padded-holds : (n : ℕ) (l : List Feedback) → length l ≤ n → take (length l) (feedbackIn (padded n l)) ≡ l
+unfolding padded
+padded-holds zero [] h = refl
+padded-holds zero (f ∷ l) h = absurd (not-suc-le-zero h)
+padded-holds (suc n) [] h = refl
+padded-holds (suc n) (f ∷ l) h = ap (λ (r : List Feedback). f ∷ r) (padded-holds n l (le-of-suc-le-suc h))
 
 length-more : (l : List Feedback) (f : Feedback) → length (l ++ (f ∷ [])) ≡ suc (length l)
 length-more [] f = refl

@@ -2,7 +2,7 @@
 -- minislot's feedback. A row is heard as a list of words and a list of counts, maybe a stretch of a longer recording.
 -- Assumes nothing.
 use mathlib.Core.Bool.{Bool, cond, _&&_}
-use mathlib.Core.List.{List, [], _∷_}
+use mathlib.Core.List.{List, [], _∷_, map}
 use Prim.Native.Nat.{ℕ, zero, suc, _+_}
 use lib.Dec.{eqb, leb}
 use lib.ListN.{length, take, drop}
@@ -47,6 +47,10 @@ unfoldable pub padded : ℕ → List Feedback → List MinislotFeedback
 padded zero l = []
 padded (suc n) [] = record { feedback = Empty } ∷ padded n []
 padded (suc n) (f ∷ l) = record { feedback = f } ∷ padded n l
+
+-- the feedback that an array holds
+abbrev pub feedbackIn : List MinislotFeedback → List Feedback
+feedbackIn l = map (λ (x : MinislotFeedback). x .feedback) l
 
 -- a row's answer: its number, and where that is 0 its weight and feedback
 abbrev pub rowAnswer : ℕ → List Feedback → RowReading

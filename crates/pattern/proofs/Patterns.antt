@@ -11,7 +11,8 @@ use lib.Count.{ones, onesIn}
 use lib.Dec.{eqb}
 use lib.ListN.{length, getD, List·getD-eq-default}
 use Rattle.pattern.specs.Patterns.{those, sixOnes, patterns, wordOf, indexOf}
-use Rattle.listlaws.proofs.Table.{everyFrom, table-at}
+use Rattle.listlaws.specs.Every.{everyFrom}
+use Rattle.listlaws.proofs.Table.{every-at}
 use Rattle.pattern.proofs.Ones.{ones-within}
 use Rattle.pattern.proofs.Those.{Found, in-range, rises, passes, all-there, place-at, place-none}
 
@@ -102,4 +103,4 @@ unfolding halves wordOf
 index-in-halves w h e =
     let p = pattern-of w h e in
     subst (λ (x : ℕ). getD before (x / 64) 0 + getD rank (x % 64) 0 ≡ indexOf w) (p .1)
-    (eqb-true _ _ (table-at halves patterns 0 halves-of-all (indexOf w) (rw count-of-patterns (p .0))))
+    (eqb-true _ _ (every-at halves 0 patterns halves-of-all (indexOf w) (rw count-of-patterns (p .0))))

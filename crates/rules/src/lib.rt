@@ -1,4 +1,4 @@
-// The types of the protocol's state. The rules over them are definitions in specs/.
+// The types of the protocol's state and of its answers. The rules over them are definitions in specs/.
 use minislot::Minislot;
 
 // What every station knows of the queues (paper: the counters). Group g stands at g − 1 of the two arrays.
@@ -17,6 +17,13 @@ pub struct Counters {
     pub resolution: [u16; 8],
     // whether each group's last slot was open (paper: Open)
     pub opened: [bool; 8],
+}
+
+// The lengths of the three queues that a slot of one group works on, while step 1 counts: wide enough for a sum that passes its limit.
+pub struct Places {
+    pub urgent: u32,
+    pub long: u32,
+    pub resolution: u32,
 }
 
 // The turn of a slot: which queue its data slot serves.
@@ -47,4 +54,66 @@ pub struct Station {
 // One group's minislots on the wire.
 pub struct Row {
     pub minislots: [Minislot; 8],
+}
+
+// The answer to starting: it went through, or the number of the refusal.
+pub enum StartAnswer {
+    Ready,
+    Refused(u8),
+}
+
+// The answer to listening: the turn, or the number of the refusal.
+pub enum ListenAnswer {
+    Went(Turn),
+    Refused(u8),
+}
+
+// Starting a listener: the answer, and the record (all zero if refused, which no later call takes).
+pub struct Started {
+    pub answer: StartAnswer,
+    pub counters: Counters,
+}
+
+// Listening: the answer, and the record after (as it was if refused).
+pub struct Listened {
+    pub answer: ListenAnswer,
+    pub counters: Counters,
+}
+
+// The answer to offering a message: its slot total, or the number of the refusal.
+pub enum OfferAnswer {
+    Taken(u8),
+    Refused(u8),
+}
+
+// The answer to a station's slot: the turn, the minislot of its request and the segment it sends (0 for none); or the number of the refusal.
+pub enum SlotAnswer {
+    Went { turn: Turn, minislot: u8, segment: u8 },
+    Refused(u8),
+}
+
+// Starting a station: the answer, and the record (all zero if refused).
+pub struct StationStarted {
+    pub answer: StartAnswer,
+    pub station: Station,
+}
+
+// Offering a message to a station: the answer, and the record after (as it was if refused).
+pub struct StationOffered {
+    pub answer: OfferAnswer,
+    pub station: Station,
+}
+
+// A station's slot: the answer, and the record after (as it was if refused).
+pub struct StationSlot {
+    pub answer: SlotAnswer,
+    pub station: Station,
+}
+
+// The answer to a call on a channel: the number of the refusal; an offer's slot total; a slot's turn, its number of data senders, the index and
+// segment of a lone sender (0 and 0 if there isn't just one), and the slots delivered in the call.
+pub enum Answer {
+    Refused(u8),
+    Taken(u8),
+    Went { turn: Turn, senders: u8, index: u16, segment: u8, delivered: u8 },
 }

@@ -1,0 +1,2 @@
+pub mod QueueingLaws
+pub mod LimitLaws

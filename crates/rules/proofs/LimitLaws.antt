@@ -1,0 +1,59 @@
+-- What the limits' tests say: of a record of counters within its limits, and of lengths that pass none.
+-- Assumes nothing.
+use mathlib.Core.Path.{_≡_, refl}
+use mathlib.Core.Bool.{Bool, true, false, _&&_, _||_, and-eq-true-iff}
+use Prim.Native.Nat.{ℕ, _≤_}
+use lib.Dec.{leb, ltb}
+use borrow.Author.Tests.{leb-true, ltb-false}
+use Rattle.rules.specs.declared.Counters.{Counters}
+use Rattle.rules.specs.declared.Places.{Places}
+use Rattle.rules.specs.Limits.{withinLimits, groupsWithin, between}
+use Rattle.rules.specs.Queueing.{passes}
+
+pub between-bounds : (low x high : ℕ) → between low x high ≡ true → (low ≤ x) × (x ≤ high)
+between-bounds low x high e =
+    let p = and-eq-true-iff (leb low x) (leb x high) .0 e in
+    (leb-true low x (p .0), leb-true x high (p .1))
+
+-- a record within its limits: minislots, groups, next group, H, N, and the two arrays' test
+pub record Within (c : Counters) : Type 0 where
+  pub minislots : (2 ≤ c .minislots) × (c .minislots ≤ 8)
+  pub groups : (1 ≤ c .groups) × (c .groups ≤ 8)
+  pub next : (1 ≤ c .next) × (c .next ≤ c .groups)
+  pub urgent : c .urgent ≤ 4095
+  pub long : c .long ≤ 65535
+  pub arrays : groupsWithin c ≡ true
+
+pub within-limits : (c : Counters) → withinLimits c ≡ true → Within c
+unfolding withinLimits
+within-limits c e =
+    let b = between 2 (c .minislots) 8 in
+    let d = between 1 (c .groups) 8 in
+    let f = between 1 (c .next) (c .groups) in
+    let u = leb (c .urgent) 4095 in
+    let l = leb (c .long) 65535 in
+    let p₅ = and-eq-true-iff (b && d && f && u && l) (groupsWithin c) .0 e in
+    let p₄ = and-eq-true-iff (b && d && f && u) l .0 (p₅ .0) in
+    let p₃ = and-eq-true-iff (b && d && f) u .0 (p₄ .0) in
+    let p₂ = and-eq-true-iff (b && d) f .0 (p₃ .0) in
+    let p₁ = and-eq-true-iff b d .0 (p₂ .0) in
+    record {
+      minislots = between-bounds 2 (c .minislots) 8 (p₁ .0);
+      groups = between-bounds 1 (c .groups) 8 (p₁ .1);
+      next = between-bounds 1 (c .next) (c .groups) (p₂ .1);
+      urgent = leb-true (c .urgent) 4095 (p₃ .1);
+      long = leb-true (c .long) 65535 (p₄ .1);
+      arrays = p₅ .1;
+    }
+
+or-false : (a b : Bool) → a || b ≡ false → (a ≡ false) × (b ≡ false)
+or-false true b e = (e, cc)
+or-false false b e = (refl, e)
+
+-- lengths of which none passes its limit
+pub none-passes : (p : Places) → passes p ≡ false → (p .urgent ≤ 4095) × (p .long ≤ 65535) × (p .resolution ≤ 4095)
+unfolding passes
+none-passes p e =
+    let q = or-false (ltb 4095 (p .urgent) || ltb 65535 (p .long)) (ltb 4095 (p .resolution)) e in
+    let r = or-false (ltb 4095 (p .urgent)) (ltb 65535 (p .long)) (q .0) in
+    (ltb-false 4095 (p .urgent) (r .0), ltb-false 65535 (p .long) (r .1), ltb-false 4095 (p .resolution) (q .1))

@@ -1,0 +1,77 @@
+-- Step 1's sums only grow, so testing the limits once after the row is testing them at each minislot.
+-- Assumes nothing.
+use mathlib.Core.Path.{_≡_, refl, sym, ap, _∙_}
+use mathlib.Core.Bool.{Bool, true, false, _||_}
+use mathlib.Core.List.{List, [], _∷_, foldl}
+use Prim.Native.Nat.{ℕ, zero, suc, _+_, _≤_, _<_}
+use native.Mathlib.Omega.{arith}
+use lib.Dec.{ltb, eqb}
+use borrow.Author.Tests.{lt-ltb, le-ltb, ltb-true, ltb-false}
+use Rattle.minislot.specs.declared.Feedback.{Feedback}
+use Rattle.minislot.specs.declared.Feedback.the-variants.{Empty, Single, Collide}
+use Rattle.rules.specs.declared.Places.{Places}
+use Rattle.rules.specs.Queueing.{queuedSingle, queued, queuedRow, passes}
+
+-- every length of p is at most that of r
+pub record Grows (p r : Places) : Type 0 where
+  pub urgent : p .urgent ≤ r .urgent
+  pub long : p .long ≤ r .long
+  pub resolution : p .resolution ≤ r .resolution
+
+pub queued-grows : (b : Bool) (p : Places) (f : Feedback) → Grows p (queued b p f)
+queued-grows b p Empty = record { urgent = omega arith; long = omega arith; resolution = omega arith }
+queued-grows b p (Single i c) = go b (eqb c 1)
+  where
+    go : (b o : Bool) → Grows p (queuedSingle b o c p)
+    go true true = record { urgent = omega arith; long = omega arith; resolution = omega arith }
+    go false true = record { urgent = omega arith; long = omega arith; resolution = omega arith }
+    go b false = record { urgent = omega arith; long = omega arith; resolution = omega arith }
+queued-grows b p Collide = record { urgent = omega arith; long = omega arith; resolution = omega arith }
+
+pub row-grows : (b : Bool) (p : Places) (row : List Feedback) → Grows p (queuedRow b p row)
+unfolding queuedRow
+row-grows b p [] = record { urgent = omega arith; long = omega arith; resolution = omega arith }
+row-grows b p (f ∷ row) =
+    let a = queued-grows b p f in
+    let c = row-grows b (queued b p f) row in
+    record { urgent = omega arith; long = omega arith; resolution = omega arith }
+
+ltb-grows : (l a b : ℕ) → a ≤ b → ltb l a ≡ true → ltb l b ≡ true
+ltb-grows l a b h e = lt-ltb l b (omega (arith, ltb-true l a e))
+
+-- a sum that passes its limit stays past it
+pub passes-grows : (p r : Places) → Grows p r → passes p ≡ true → passes r ≡ true
+unfolding passes
+passes-grows p r g e = go (ltb 4095 (p .urgent)) refl (ltb 65535 (p .long)) refl (ltb 4095 (p .resolution)) refl e
+  where
+    last : (x y z : Bool) → z ≡ true → x || y || z ≡ true
+    last true y z w = refl
+    last false true z w = refl
+    last false false z w = w
+
+    go : (x : Bool) → ltb 4095 (p .urgent) ≡ x → (y : Bool) → ltb 65535 (p .long) ≡ y → (z : Bool) → ltb 4095 (p .resolution) ≡ z → x || y || z ≡ true
+        → ltb 4095 (r .urgent) || ltb 65535 (r .long) || ltb 4095 (r .resolution) ≡ true
+    go true a y b z c w = rw (ltb-grows 4095 (p .urgent) (r .urgent) (g .urgent) a)
+    go false a true b z c w = rw (ltb-grows 65535 (p .long) (r .long) (g .long) b) (mid (ltb 4095 (r .urgent)))
+      where
+        mid : (x : Bool) → x || true || ltb 4095 (r .resolution) ≡ true
+        mid true = refl
+        mid false = refl
+    go false a false b true c w = last (ltb 4095 (r .urgent)) (ltb 65535 (r .long)) (ltb 4095 (r .resolution)) (ltb-grows 4095 (p .resolution) (r .resolution) (g .resolution) c)
+    go false a false b false c w = cc
+
+-- whether a sum passes its limit at some minislot of the row
+pub passesAlong : Bool → Places → List Feedback → Bool
+passesAlong b p [] = false
+passesAlong b p (f ∷ row) = passes (queued b p f) || passesAlong b (queued b p f) row
+
+-- ONE TEST at the end of the row is a test at each minislot
+pub passes-once : (b : Bool) (p : Places) (row : List Feedback) → passes p ≡ false → passes (queuedRow b p row) ≡ passesAlong b p row
+unfolding passesAlong queuedRow
+passes-once b p [] e = e
+passes-once b p (f ∷ row) e = go (passes-once b (queued b p f) row) (passes (queued b p f)) refl
+  where
+    go : (passes (queued b p f) ≡ false → passes (queuedRow b (queued b p f) row) ≡ passesAlong b (queued b p f) row) → (x : Bool) → passes (queued b p f) ≡ x
+        → passes (queuedRow b (queued b p f) row) ≡ x || passesAlong b (queued b p f) row
+    go ih true w = passes-grows (queued b p f) (queuedRow b (queued b p f) row) (row-grows b (queued b p f) row) w
+    go ih false w = ih w

@@ -1,0 +1,6 @@
+pub mod Limits
+pub mod Starting
+pub mod Queueing
+pub mod Turns
+pub mod Falling
+pub mod Listening

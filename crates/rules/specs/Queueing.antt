@@ -1,0 +1,51 @@
+-- Step 1, queueing (QDR): immediate success (from Open and the weight, which is minislot's), and the counters after each minislot (paper 01, "One slot of group g", 1). Assumes nothing.
+use mathlib.Core.Bool.{Bool, true, false, _&&_, _||_, cond}
+use mathlib.Core.List.{List, [], _∷_, foldl}
+use Prim.Native.Nat.{ℕ, _+_, _-_}
+use lib.Dec.{ltb, eqb}
+use lib.ListN.{getD}
+use Rattle.minislot.specs.declared.Feedback.{Feedback}
+use Rattle.minislot.specs.declared.Feedback.the-variants.{Empty, Single, Collide}
+use Rattle.minislot.specs.Row.{weight}
+use Rattle.rules.specs.declared.Counters.{Counters}
+use Rattle.rules.specs.declared.Places.{Places}
+use Rattle.rules.specs.Limits.{urgentLimit, longLimit, resolutionLimit}
+
+-- a Single of count 1 is immediate success if the group is open and the weight is 1
+abbrev pub immediate : Bool → ℕ → Bool
+immediate opened w = opened && eqb w 1
+
+-- a Single: whether success would be immediate, whether its count is 1, and its count
+abbrev pub queuedSingle : Bool → Bool → ℕ → Places → Places
+queuedSingle true true c p = p
+queuedSingle false true c p = record { urgent = p .urgent + 1; long = p .long; resolution = p .resolution }
+queuedSingle b false c p = record { urgent = p .urgent; long = p .long + c; resolution = p .resolution }
+
+-- one minislot
+abbrev pub queued : Bool → Places → Feedback → Places
+queued b p Empty = p
+queued b p (Single i c) = queuedSingle b (eqb c 1) c p
+queued b p Collide = record { urgent = p .urgent; long = p .long; resolution = p .resolution + 1 }
+
+-- minislots 1 to m, in order
+unfoldable pub queuedRow : Bool → Places → List Feedback → Places
+queuedRow b p row = foldl (queued b) p row
+
+-- whether a sum passes its limit (refusal 7)
+unfoldable pub passes : Places → Bool
+passes p = ltb urgentLimit (p .urgent) || ltb longLimit (p .long) || ltb resolutionLimit (p .resolution)
+
+-- the lengths that a slot of the next group works on, and the group's Open mark
+abbrev pub placesOf : Counters → Places
+placesOf c = record { urgent = c .urgent; long = c .long; resolution = getD (c .resolution) (c .next - 1) 0 }
+
+abbrev pub openedOf : Counters → Bool
+openedOf c = getD (c .opened) (c .next - 1) false
+
+-- immediate success of a row, decided from Open and the weight before anything is queued
+unfoldable pub immediateOf : Counters → List Feedback → Bool
+immediateOf c row = immediate (openedOf c) (weight row)
+
+-- the lengths after step 1
+unfoldable pub placesAfter : Counters → List Feedback → Places
+placesAfter c row = queuedRow (immediateOf c row) (placesOf c) row
