@@ -5,7 +5,6 @@ use minislot::MinislotFeedback;
 use rules::Counters;
 use rules::Places;
 use rules::Turn;
-
 ghost use mathlib.Core.Path.{_≡_};
 ghost use mathlib.Core.Bool.{false};
 ghost use Prim.Native.Nat.{_+_, _-_, _≤_};
@@ -15,7 +14,7 @@ ghost use Rattle.listlaws.specs.Every.{everyFrom};
 ghost use Rattle.minislot.specs.Row.{feedbackIn};
 ghost use Rattle.rules.specs.Limits.{withinLimits, groupsWithin, resolutionWithin, openedWithin};
 ghost use Rattle.rules.specs.Starting.{startCounters, noCounters};
-ghost use Rattle.rules.specs.Queueing.{queued, queuedSingle, queuedRow, passes, placesOf, openedOf};
+ghost use Rattle.rules.specs.Queueing.{queued, queuedSingle, queuedRow, passes, placesOf, openedOf, immediate};
 ghost use Rattle.rules.specs.Turns.{turnOf, isOpen};
 ghost use Rattle.rules.specs.Falling.{fallen, following, urgentFalls, longFalls};
 
@@ -131,7 +130,7 @@ fn opened_within(n: u8, opened: [bool; 8]) -> bool
 // The lengths that a slot of the next group works on.
 pub fn places_of(c: Counters) -> Places
     requires { ⌜ (1 ≤ c .next) × (c .next ≤ 8) ⌝ }
-    ensures { λ r. ⌜ r ≡ placesOf c ⌝ }
+    ensures { λ r. ⌜ (r ≡ placesOf c) × (r .urgent ≤ 65535) × (r .long ≤ 65535) × (r .resolution ≤ 65535) ⌝ }
 {
     let g = (c.next - 1) as usize;
     let r = c.resolution[g];
@@ -149,6 +148,13 @@ pub fn opened_of(c: Counters) -> bool
 {
     let g = (c.next - 1) as usize;
     c.opened[g]
+}
+
+// Whether a Single of count 1 is immediate success, from the mark and the row's weight.
+pub fn immediate_success(opened: bool, weight: u8) -> bool
+    ensures { λ r. ⌜ r ≡ immediate opened weight ⌝ }
+{
+    if opened { weight == 1 } else { false }
 }
 
 fn queue_single(success: bool, p: Places, count: u8) -> Places

@@ -1,3 +1,4 @@
 pub mod Readings
 pub mod Row
+pub mod Answers
 pub mod Senders

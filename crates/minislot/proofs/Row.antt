@@ -139,7 +139,7 @@ heard-answer words counts e = rw (all-heard (readings words counts) e)
 
 -- ---- 6, or the minislots
 
-row-tests : (m : ℕ) (words counts : List ℕ) → hasMinislots m words counts ≡ true
+pub row-tests : (m : ℕ) (words counts : List ℕ) → hasMinislots m words counts ≡ true
     → (2 ≤ m) × (m ≤ 8) × (length words ≡ m) × (length counts ≡ m)
 row-tests m words counts e =
     let p = and-eq-true-iff (leb 2 m && leb m 8 && eqb (length words) m) (eqb (length counts) m) .0 e in

@@ -1,2 +1,3 @@
 pub mod QueueingLaws
 pub mod LimitLaws
+pub mod ListeningLaws

@@ -88,7 +88,11 @@ pub enum OfferAnswer {
 
 // The answer to a station's slot: the turn, the minislot of its request and the segment it sends (0 for none); or the number of the refusal.
 pub enum SlotAnswer {
-    Went { turn: Turn, minislot: u8, segment: u8 },
+    Went {
+        turn: Turn,
+        minislot: u8,
+        segment: u8,
+    },
     Refused(u8),
 }
 
@@ -115,5 +119,11 @@ pub struct StationSlot {
 pub enum Answer {
     Refused(u8),
     Taken(u8),
-    Went { turn: Turn, senders: u8, index: u16, segment: u8, delivered: u8 },
+    Went {
+        turn: Turn,
+        senders: u8,
+        index: u16,
+        segment: u8,
+        delivered: u8,
+    },
 }

@@ -16,7 +16,7 @@ opened-within-requires c κs = search needs
 
 returns : tie.Need-returns
 unfolding groupsWithin
-returns c = 
+returns c =
     let k = c .before .before .before .before .before .args .c in
     let w : length (k .resolution) ≡ 8 = search needs in
     let v : length (k .opened) ≡ 8 = search needs in
@@ -24,7 +24,7 @@ returns c =
 
 returns-2 : tie.Need-returns-2
 unfolding groupsWithin
-returns-2 c = 
+returns-2 c =
     let k = c .before .before .before .before .args .c in
     let w : length (k .resolution) ≡ 8 = search needs in
     let v : length (k .opened) ≡ 8 = search needs in

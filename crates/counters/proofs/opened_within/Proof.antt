@@ -34,18 +34,18 @@ loop-less c = search needs
 
 loop-again : tie.Need-loop-again Inv-loop μ-loop
 loop-again c = (
-      omega arith,
-      λ k g h. ⊎-elim (λ q. c .before .before .loop .inv .1 k g q) (λ e. rw e (c .if1 .taken)) (lt-or-eq k (c .before .before .loop .i) (omega arith)),
-    )
+  omega arith,
+  λ k g h. ⊎-elim (λ q. c .before .before .loop .inv .1 k g q) (λ e. rw e (c .if1 .taken)) (lt-or-eq k (c .before .before .loop .i) (omega arith)),
+)
 
 returns : tie.Need-returns Inv-loop μ-loop
-returns c = 
+returns c =
     let a = c .before .before .before .args in
     let w : length (a .t2) ≡ 8 = search needs in
     sym (every-fails (openedWithin (a .n)) false (a .t2) (c .before .before .loop .i) (omega arith) (opened-above (a .n) (c .before .before .loop .i) _ _ (omega arith) (c .if1 .left)))
 
 returns-2 : tie.Need-returns-2 Inv-loop μ-loop
-returns-2 c = 
+returns-2 c =
     let a = c .before .before .args in
     let w : length (a .t2) ≡ 8 = search needs in
     sym (every-holds (openedWithin (a .n)) false (a .t2)

@@ -49,12 +49,11 @@ loop-again c =
     let a = c .before .before .before .before .args in
     let blank : MinislotFeedback = record { feedback = Empty } in
     let w : length (a .t3) ≡ 8 = search needs in
-    let n : l .j < length (feedbackIn (a .t3)) = rw length-map (omega arith) in
-    (
+    let n : l .j < length (feedbackIn (a .t3)) = rw length-map (omega arith) in (
       omega arith,
       c .queue .ensures .0
-      ∙ rw (l .inv .1, add-one, ← (List·getD-map (λ (x : MinislotFeedback). x .feedback) (a .t3) (l .j) blank))
-        (fold-more (queued (a .success)) (a .before) (feedbackIn (a .t3)) (l .j) Empty n),
+          ∙ rw (l .inv .1, add-one, ← (List·getD-map (λ (x : MinislotFeedback). x .feedback) (a .t3) (l .j) blank))
+          (fold-more (queued (a .success)) (a .before) (feedbackIn (a .t3)) (l .j) Empty n),
       omega (arith, c .queue .ensures),
       omega (arith, c .queue .ensures),
       omega (arith, c .queue .ensures),

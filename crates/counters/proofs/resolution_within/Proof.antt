@@ -31,13 +31,13 @@ array-read-r : tie.Need-array-read-r Inv-loop μ-loop
 array-read-r c = search needs
 
 returns : tie.Need-returns Inv-loop μ-loop
-returns c = 
+returns c =
     let a = c .before .before .before .before .args in
     let w : length (a .t2) ≡ 8 = search needs in
     sym (every-fails (resolutionWithin (a .n)) 0 (a .t2) (c .before .before .before .loop .i) (omega arith) (resolution-over (a .n) (c .before .before .before .loop .i) _ (omega arith) (c .if2 .taken)))
 
 returns-2 : tie.Need-returns-2 Inv-loop μ-loop
-returns-2 c = 
+returns-2 c =
     let a = c .before .before .before .before .args in
     let w : length (a .t2) ≡ 8 = search needs in
     sym (every-fails (resolutionWithin (a .n)) 0 (a .t2) (c .before .before .before .loop .i) (omega arith) (resolution-stray (a .n) (c .before .before .before .loop .i) _ (omega arith) (c .if3 .taken)))
@@ -50,13 +50,13 @@ loop-less c = search needs
 
 loop-again : tie.Need-loop-again Inv-loop μ-loop
 loop-again c = (
-      omega arith,
-      below-more _ _ (c .before .before .loop .inv .1)
+  omega arith,
+  below-more _ _ (c .before .before .loop .inv .1)
       (⊎-elim (λ w. resolution-fits (c .before .before .before .args .n) (c .before .before .loop .i) _ (omega arith) (w .1 .left)) (λ w. resolution-idle (c .before .before .before .args .n) (c .before .before .loop .i) _ (omega arith) (w .1 .left)) (c .if1 .came)),
-    )
+)
 
 returns-3 : tie.Need-returns-3 Inv-loop μ-loop
-returns-3 c = 
+returns-3 c =
     let a = c .before .before .args in
     let w : length (a .t2) ≡ 8 = search needs in
     sym (every-holds (resolutionWithin (a .n)) 0 (a .t2) (λ k h. c .before .loop .inv .1 k (omega arith)))

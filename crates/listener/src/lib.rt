@@ -1,0 +1,114 @@
+// The listener: the counters that every station keeps, moved by each row that is heard.
+use counters::fall;
+use counters::immediate_success;
+use counters::opened_of;
+use counters::passes_limit;
+use counters::places_of;
+use counters::queue_row;
+use counters::turn;
+use counters::within;
+use minislot::RowReading;
+use minislot::read_row;
+use minislot::read_row_at;
+use rules::Counters;
+use rules::ListenAnswer;
+use rules::Listened;
+use rules::StartAnswer;
+use rules::Started;
+ghost use mathlib.Core.Path.{_≡_};
+ghost use mathlib.Core.Bool.{true};
+ghost use lib.ListN.{take};
+ghost use Rattle.minislot.specs.Row.{weight, feedbackIn};
+ghost use Rattle.rules.specs.Limits.{withinLimits};
+ghost use Rattle.rules.specs.Starting.{startOf, noCounters};
+ghost use Rattle.rules.specs.Listening.{listeningOf, listeningAtOf, listenOf, refusedListening};
+
+// Starts a listener. 5: m or n outside its range.
+pub fn start(m: u8, n: u8) -> Started
+    ensures { λ r. ⌜ r ≡ startOf m n ⌝ }
+{
+    if m < 2 {
+        return refused_start();
+    }
+    if 8 < m {
+        return refused_start();
+    }
+    if n < 1 {
+        return refused_start();
+    }
+    if 8 < n {
+        return refused_start();
+    }
+    Started {
+        answer: StartAnswer::Ready,
+        counters: counters::start(m, n),
+    }
+}
+
+fn refused_start() -> Started
+    ensures { λ r. ⌜ r ≡ record { answer = StartAnswer.Refused 5; counters = noCounters } ⌝ }
+{
+    Started {
+        answer: StartAnswer::Refused(5),
+        counters: counters::none(),
+    }
+}
+
+fn refused(c: Counters, number: u8) -> Listened
+    ensures { λ r. ⌜ r ≡ refusedListening c number ⌝ }
+{
+    Listened {
+        answer: ListenAnswer::Refused(number),
+        counters: c,
+    }
+}
+
+// Steps 1 to 5 for a row that was heard. 7: a counter would pass its limit in step 1.
+fn listen_row(c: Counters, row: RowReading) -> Listened
+    requires { ⌜ (withinLimits c ≡ true) × (row .weight ≡ weight (take (c .minislots) (feedbackIn (row .minislots)))) ⌝ }
+    ensures { λ r. ⌜ r ≡ listenOf c (take (c .minislots) (feedbackIn (row .minislots))) ⌝ }
+{
+    let minislots = row.minislots;
+    let before = places_of(c);
+    let opened = opened_of(c);
+    let success = immediate_success(opened, row.weight);
+    let p = queue_row(success, before, minislots, c.minislots);
+    if passes_limit(p) {
+        return refused(c, 7);
+    }
+    Listened {
+        answer: ListenAnswer::Went(turn(p)),
+        counters: fall(c, p),
+    }
+}
+
+// Listens to a row. 18: the record is outside its limits. 6: the row has not m minislots. Then 1 to 4 for the first bad minislot. 7: a
+// counter would pass its limit in step 1. A refusal leaves the record as it was.
+pub fn listen(c: Counters, words: &[u16], counts: &[u8]) -> Listened
+    ensures { λ r. ⌜ r ≡ listeningOf c (now (words .entry)) (now (counts .entry)) ⌝ }
+{
+    if within(c) {
+        let row = read_row(words, counts, c.minislots);
+        let number = row.number;
+        if number != 0 {
+            return refused(c, number);
+        }
+        return listen_row(c, row);
+    }
+    refused(c, 18)
+}
+
+// Listens to the row that begins at a place of a longer recording; the numbers are those of `listen`.
+pub fn listen_at(c: Counters, words: &[u16], counts: &[u8], start: usize) -> Listened
+    ensures { λ r. ⌜ r ≡ listeningAtOf c start (now (words .entry)) (now (counts .entry)) ⌝ }
+{
+    if within(c) {
+        let row = read_row_at(words, counts, start, c.minislots);
+        let number = row.number;
+        if number != 0 {
+            return refused(c, number);
+        }
+        return listen_row(c, row);
+    }
+    refused(c, 18)
+}

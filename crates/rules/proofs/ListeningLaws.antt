@@ -1,0 +1,87 @@
+-- Listening by the row's answer: 18 outside the limits; a row that is refused is refused with its number; of one that is heard the array
+-- holds the feedback and the weight that steps 1 to 5 go by.
+-- Assumes nothing.
+use mathlib.Core.Path.{_≡_, refl, ap, _∙_, sym}
+use mathlib.Core.Bool.{Bool, true, false, cond, _&&_}
+use mathlib.Core.List.{List}
+use Prim.Native.Nat.{ℕ, zero, suc, _≤_}
+use native.Mathlib.Omega.{arith}
+use lib.Dec.{leb, eqb}
+use lib.ListN.{length, take}
+use borrow.Author.Tests.{le-leb, eq-eqb, ne-eqb}
+use Rattle.minislot.specs.declared.Feedback.{Feedback}
+use Rattle.minislot.specs.Row.{readings, firstNumber, feedbacks, weight, feedbackIn, hasMinislots, rowOf}
+use Rattle.minislot.proofs.Answers.{number-short, number-whole, weight-heard, array-heard}
+use Rattle.rules.specs.declared.Counters.{Counters}
+use Rattle.rules.specs.Limits.{withinLimits}
+use Rattle.rules.specs.declared.Places.{Places}
+use Rattle.rules.specs.declared.Listened.{Listened}
+use Rattle.rules.specs.declared.ListenAnswer.the-variants.{Went}
+use Rattle.rules.specs.Queueing.{queuedRow, passes, placesOf, openedOf, immediate, immediateOf, placesAfter}
+use Rattle.rules.specs.Turns.{turnOf}
+use Rattle.rules.specs.Falling.{fallen}
+use Rattle.rules.specs.Listening.{refusedListening, listenOf, listenTo, hasRow, listeningOf}
+use Rattle.rules.proofs.LimitLaws.{within-limits}
+
+module _ (c : Counters) (words counts : List ℕ) where
+  pub listening-18 : withinLimits c ≡ false → listeningOf c words counts ≡ refusedListening c 18
+  unfolding listeningOf
+  listening-18 e = rw e
+
+  module _ (within : withinLimits c ≡ true) where
+    -- within the limits m is 2 to 8, so a row is short exactly where it has not m words and m counts
+    same-test : hasMinislots (c .minislots) words counts ≡ hasRow (c .minislots) words counts
+    same-test =
+        let w = within-limits c within in
+        rw (le-leb 2 (c .minislots) (w .minislots .0), le-leb (c .minislots) 8 (w .minislots .1))
+
+    -- a row that is refused
+    pub listening-refused : (n : ℕ) → rowOf (c .minislots) words counts .number ≡ n → (n ≡ 0 → ⊥) → listeningOf c words counts ≡ refusedListening c n
+    unfolding listeningOf listenTo
+    listening-refused n e some = rw within (go (hasRow (c .minislots) words counts) refl)
+      where
+        go : (b : Bool) → hasRow (c .minislots) words counts ≡ b → cond b (listenTo c (readings words counts)) (refusedListening c 6) ≡ refusedListening c n
+        go false q = rw (sym (number-short (c .minislots) words counts (same-test ∙ q)) ∙ e)
+        go true q =
+            let f = sym (number-whole (c .minislots) words counts (same-test ∙ q)) ∙ e in
+            rw (f, ne-eqb n 0 some)
+
+    -- a row that is heard
+    module _ (heard : rowOf (c .minislots) words counts .number ≡ 0) where
+      whole : hasMinislots (c .minislots) words counts ≡ true
+      whole = go (hasMinislots (c .minislots) words counts) refl
+        where
+          go : (b : Bool) → hasMinislots (c .minislots) words counts ≡ b → b ≡ true
+          go true q = refl
+          go false q = absurd (omega (arith, number-short (c .minislots) words counts q, heard))
+
+      first : firstNumber (readings words counts) ≡ 0
+      first = sym (number-whole (c .minislots) words counts whole) ∙ heard
+
+      pub listening-weight : rowOf (c .minislots) words counts .weight ≡ weight (take (c .minislots) (feedbackIn (rowOf (c .minislots) words counts .minislots)))
+      listening-weight =
+          weight-heard (c .minislots) words counts whole first ∙ ap weight (sym (array-heard (c .minislots) words counts whole first))
+
+      pub listening-heard : listeningOf c words counts ≡ listenOf c (take (c .minislots) (feedbackIn (rowOf (c .minislots) words counts .minislots)))
+      unfolding listeningOf listenTo
+      listening-heard =
+          rw (within, sym same-test ∙ whole, eq-eqb (firstNumber (readings words counts)) 0 first)
+          (ap (listenOf c) (sym (array-heard (c .minislots) words counts whole first)))
+
+-- ---- steps 1 to 5, computed one after the other
+
+-- the lengths after step 1, from the group's lengths and mark, the weight and the test of success
+pub places-are : (c : Counters) (row : List Feedback) (opened success : Bool) (w : ℕ) (before p : Places)
+    → before ≡ placesOf c → opened ≡ openedOf c → w ≡ weight row → success ≡ immediate opened w → p ≡ queuedRow success before row
+    → p ≡ placesAfter c row
+unfolding placesAfter immediateOf
+places-are c row opened success w before p b o v s q = q ∙ rw (s, b, o, v)
+
+module _ (c : Counters) (row : List Feedback) (p : Places) (after : p ≡ placesAfter c row) where
+  pub listen-passes : passes p ≡ true → refusedListening c 7 ≡ listenOf c row
+  unfolding listenOf
+  listen-passes e = rw (← after, e)
+
+  pub listen-goes : passes p ≡ false → _≡_ {A = Listened} (record { answer = Went (turnOf p); counters = fallen c p }) (listenOf c row)
+  unfolding listenOf
+  listen-goes e = rw (← after, e)
