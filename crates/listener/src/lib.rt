@@ -20,6 +20,7 @@ ghost use mathlib.Core.Bool.{true};
 ghost use lib.ListN.{take};
 ghost use Rattle.minislot.specs.Row.{weight, feedbackIn};
 ghost use Rattle.rules.specs.Limits.{withinLimits};
+ghost use Rattle.rules.proofs.ListeningLaws.{RowHeard, heardRow};
 ghost use Rattle.rules.specs.Starting.{startOf, noCounters};
 ghost use Rattle.rules.specs.Listening.{listeningOf, listeningAtOf, listenOf, refusedListening};
 
@@ -82,6 +83,18 @@ fn listen_row(c: Counters, row: RowReading) -> Listened
     }
 }
 
+// What a row's reading leads to: its number, or steps 1 to 5.
+fn hear(c: Counters, row: RowReading) -> Listened
+    requires { ⌜ (withinLimits c ≡ true) × RowHeard (c .minislots) row ⌝ }
+    ensures { λ r. ⌜ r ≡ heardRow c row ⌝ }
+{
+    let number = row.number;
+    if number != 0 {
+        return refused(c, number);
+    }
+    listen_row(c, row)
+}
+
 // Listens to a row. 18: the record is outside its limits. 6: the row has not m minislots. Then 1 to 4 for the first bad minislot. 7: a
 // counter would pass its limit in step 1. A refusal leaves the record as it was.
 pub fn listen(c: Counters, words: &[u16], counts: &[u8]) -> Listened
@@ -89,11 +102,7 @@ pub fn listen(c: Counters, words: &[u16], counts: &[u8]) -> Listened
 {
     if within(c) {
         let row = read_row(words, counts, c.minislots);
-        let number = row.number;
-        if number != 0 {
-            return refused(c, number);
-        }
-        return listen_row(c, row);
+        return hear(c, row);
     }
     refused(c, 18)
 }
@@ -104,11 +113,7 @@ pub fn listen_at(c: Counters, words: &[u16], counts: &[u8], start: usize) -> Lis
 {
     if within(c) {
         let row = read_row_at(words, counts, start, c.minislots);
-        let number = row.number;
-        if number != 0 {
-            return refused(c, number);
-        }
-        return listen_row(c, row);
+        return hear(c, row);
     }
     refused(c, 18)
 }

@@ -45,6 +45,14 @@ module _ (m : ℕ) (words counts : List ℕ) where
   unfolding rowOf
   number-short e = rw e
 
+  -- a row that is heard has m minislots
+  pub number-zero : rowOf m words counts .number ≡ 0 → hasMinislots m words counts ≡ true
+  number-zero e = go (hasMinislots m words counts) refl
+    where
+      go : (b : Bool) → hasMinislots m words counts ≡ b → b ≡ true
+      go true q = refl
+      go false q = absurd (omega (arith, number-short q, e))
+
   number-of-answer : (n : ℕ) (l : List Feedback) → rowAnswer n l .number ≡ n
   number-of-answer zero l = refl
   number-of-answer (suc n) l = refl

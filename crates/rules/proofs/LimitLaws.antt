@@ -3,11 +3,13 @@
 use mathlib.Core.Path.{_≡_, refl}
 use mathlib.Core.Bool.{Bool, true, false, _&&_, _||_, and-eq-true-iff}
 use Prim.Native.Nat.{ℕ, _≤_}
-use lib.Dec.{leb, ltb}
-use borrow.Author.Tests.{leb-true, ltb-false}
+use lib.Dec.{leb, ltb, eqb}
+use lib.ListN.{length}
+use borrow.Author.Tests.{leb-true, ltb-false, eqb-true}
+use Rattle.listlaws.specs.Every.{everyFrom}
 use Rattle.rules.specs.declared.Counters.{Counters}
 use Rattle.rules.specs.declared.Places.{Places}
-use Rattle.rules.specs.Limits.{withinLimits, groupsWithin, between}
+use Rattle.rules.specs.Limits.{withinLimits, groupsWithin, between, resolutionWithin, openedWithin}
 use Rattle.rules.specs.Queueing.{passes}
 
 pub between-bounds : (low x high : ℕ) → between low x high ≡ true → (low ≤ x) × (x ≤ high)
@@ -45,6 +47,19 @@ within-limits c e =
       long = leb-true (c .long) 65535 (p₄ .1);
       arrays = p₅ .1;
     }
+
+-- the two arrays have a place for each of eight groups
+pub arrays-lengths : (c : Counters) → groupsWithin c ≡ true → (length (c .resolution) ≡ 8) × (length (c .opened) ≡ 8)
+unfolding groupsWithin
+arrays-lengths c e =
+    let lr = eqb (length (c .resolution)) 8 in
+    let lo = eqb (length (c .opened)) 8 in
+    let er = everyFrom (resolutionWithin (c .groups)) 0 (c .resolution) in
+    let eo = everyFrom (openedWithin (c .groups)) 0 (c .opened) in
+    let p₃ = and-eq-true-iff (lr && lo && er) eo .0 e in
+    let p₂ = and-eq-true-iff (lr && lo) er .0 (p₃ .0) in
+    let p₁ = and-eq-true-iff lr lo .0 (p₂ .0) in
+    (eqb-true (length (c .resolution)) 8 (p₁ .0), eqb-true (length (c .opened)) 8 (p₁ .1))
 
 or-false : (a b : Bool) → a || b ≡ false → (a ≡ false) × (b ≡ false)
 or-false true b e = (e, cc)

@@ -11,7 +11,8 @@ use lib.ListN.{length, take}
 use borrow.Author.Tests.{le-leb, eq-eqb, ne-eqb}
 use Rattle.minislot.specs.declared.Feedback.{Feedback}
 use Rattle.minislot.specs.Row.{readings, firstNumber, feedbacks, weight, feedbackIn, hasMinislots, rowOf}
-use Rattle.minislot.proofs.Answers.{number-short, number-whole, weight-heard, array-heard}
+use Rattle.minislot.specs.declared.RowReading.{RowReading}
+use Rattle.minislot.proofs.Answers.{number-zero, number-short, number-whole, weight-heard, array-heard}
 use Rattle.rules.specs.declared.Counters.{Counters}
 use Rattle.rules.specs.Limits.{withinLimits}
 use Rattle.rules.specs.declared.Places.{Places}
@@ -22,6 +23,16 @@ use Rattle.rules.specs.Turns.{turnOf}
 use Rattle.rules.specs.Falling.{fallen}
 use Rattle.rules.specs.Listening.{refusedListening, listenOf, listenTo, hasRow, listeningOf}
 use Rattle.rules.proofs.LimitLaws.{within-limits}
+
+-- ---- by the row's reading
+
+-- of a row that is heard, the weight is that of the feedback in its array
+abbrev pub RowHeard : ℕ → RowReading → Type 0
+RowHeard m row = row .number ≡ 0 → row .weight ≡ weight (take m (feedbackIn (row .minislots)))
+
+-- what a row's reading leads to: its number, or steps 1 to 5
+abbrev pub heardRow : Counters → RowReading → Listened
+heardRow c row = cond (eqb (row .number) 0) (listenOf c (take (c .minislots) (feedbackIn (row .minislots)))) (refusedListening c (row .number))
 
 module _ (c : Counters) (words counts : List ℕ) where
   pub listening-18 : withinLimits c ≡ false → listeningOf c words counts ≡ refusedListening c 18
@@ -35,38 +46,27 @@ module _ (c : Counters) (words counts : List ℕ) where
         let w = within-limits c within in
         rw (le-leb 2 (c .minislots) (w .minislots .0), le-leb (c .minislots) 8 (w .minislots .1))
 
-    -- a row that is refused
-    pub listening-refused : (n : ℕ) → rowOf (c .minislots) words counts .number ≡ n → (n ≡ 0 → ⊥) → listeningOf c words counts ≡ refusedListening c n
+    pub row-heard : RowHeard (c .minislots) (rowOf (c .minislots) words counts)
+    row-heard none =
+        let whole = number-zero (c .minislots) words counts none in
+        let first = sym (number-whole (c .minislots) words counts whole) ∙ none in
+        weight-heard (c .minislots) words counts whole first ∙ ap weight (sym (array-heard (c .minislots) words counts whole first))
+
+    -- within the limits listening is what the row's reading leads to
+    pub listening-row : listeningOf c words counts ≡ heardRow c (rowOf (c .minislots) words counts)
     unfolding listeningOf listenTo
-    listening-refused n e some = rw within (go (hasRow (c .minislots) words counts) refl)
+    listening-row = rw (within, ← same-test) (go (hasMinislots (c .minislots) words counts) refl)
       where
-        go : (b : Bool) → hasRow (c .minislots) words counts ≡ b → cond b (listenTo c (readings words counts)) (refusedListening c 6) ≡ refusedListening c n
-        go false q = rw (sym (number-short (c .minislots) words counts (same-test ∙ q)) ∙ e)
-        go true q =
-            let f = sym (number-whole (c .minislots) words counts (same-test ∙ q)) ∙ e in
-            rw (f, ne-eqb n 0 some)
+        to : (n : ℕ) → firstNumber (readings words counts) ≡ n → hasMinislots (c .minislots) words counts ≡ true
+            → cond (eqb n 0) (listenOf c (feedbacks (readings words counts))) (refusedListening c n)
+            ≡ cond (eqb n 0) (listenOf c (take (c .minislots) (feedbackIn (rowOf (c .minislots) words counts .minislots)))) (refusedListening c n)
+        to zero e q = rw (array-heard (c .minislots) words counts q e)
+        to (suc n) e q = rw (ne-eqb (suc n) 0 (λ z. omega arith))
 
-    -- a row that is heard
-    module _ (heard : rowOf (c .minislots) words counts .number ≡ 0) where
-      whole : hasMinislots (c .minislots) words counts ≡ true
-      whole = go (hasMinislots (c .minislots) words counts) refl
-        where
-          go : (b : Bool) → hasMinislots (c .minislots) words counts ≡ b → b ≡ true
-          go true q = refl
-          go false q = absurd (omega (arith, number-short (c .minislots) words counts q, heard))
-
-      first : firstNumber (readings words counts) ≡ 0
-      first = sym (number-whole (c .minislots) words counts whole) ∙ heard
-
-      pub listening-weight : rowOf (c .minislots) words counts .weight ≡ weight (take (c .minislots) (feedbackIn (rowOf (c .minislots) words counts .minislots)))
-      listening-weight =
-          weight-heard (c .minislots) words counts whole first ∙ ap weight (sym (array-heard (c .minislots) words counts whole first))
-
-      pub listening-heard : listeningOf c words counts ≡ listenOf c (take (c .minislots) (feedbackIn (rowOf (c .minislots) words counts .minislots)))
-      unfolding listeningOf listenTo
-      listening-heard =
-          rw (within, sym same-test ∙ whole, eq-eqb (firstNumber (readings words counts)) 0 first)
-          (ap (listenOf c) (sym (array-heard (c .minislots) words counts whole first)))
+        go : (b : Bool) → hasMinislots (c .minislots) words counts ≡ b
+            → cond b (listenTo c (readings words counts)) (refusedListening c 6) ≡ heardRow c (rowOf (c .minislots) words counts)
+        go false q = rw (number-short (c .minislots) words counts q)
+        go true q = rw (number-whole (c .minislots) words counts q) (to (firstNumber (readings words counts)) refl q)
 
 -- ---- steps 1 to 5, computed one after the other
 

@@ -4,3 +4,5 @@ pub mod Queueing
 pub mod Turns
 pub mod Falling
 pub mod Listening
+pub mod Changes
+pub mod Edges
