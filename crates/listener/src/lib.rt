@@ -22,7 +22,8 @@ ghost use Rattle.minislot.specs.Row.{weight, feedbackIn};
 ghost use Rattle.rules.specs.Limits.{withinLimits};
 ghost use Rattle.rules.proofs.ListeningLaws.{RowHeard, heardRow};
 ghost use Rattle.rules.specs.Starting.{startOf, noCounters};
-ghost use Rattle.rules.specs.Listening.{listeningOf, listeningAtOf, listenOf, refusedListening};
+ghost use Rattle.rules.specs.Listening.{listeningOf, listenOf, refusedListening};
+ghost use Rattle.rules.specs.Recorded.{listeningAtOf};
 
 // Starts a listener. 5: m or n outside its range.
 pub fn start(m: u8, n: u8) -> Started

@@ -11,20 +11,20 @@ use lib.ListN.{length, getD}
 use Rattle.listlaws.specs.Every.{everyFrom}
 
 module _ {A : Type 0} (test : ℕ → A → Bool) (d : A) where
-  from-at : (l : List A) (i : ℕ) → everyFrom test i l ≡ true → (k : ℕ) → k < length l → test (i + k) (getD l k d) ≡ true
+  pub from-at : (l : List A) (i : ℕ) → everyFrom test i l ≡ true → (k : ℕ) → k < length l → test (i + k) (getD l k d) ≡ true
   from-at [] i e k h = absurd (not-suc-le-zero h)
   from-at (x ∷ l) i e zero h = rw add-zero (and-eq-true-iff (test i x) (everyFrom test (suc i) l) .0 e .0)
   from-at (x ∷ l) i e (suc k) h =
       rw (add-suc, ← suc-add i k) (from-at l (suc i) (and-eq-true-iff (test i x) (everyFrom test (suc i) l) .0 e .1) k (le-of-suc-le-suc h))
 
-  from-fails : (l : List A) (i k : ℕ) → k < length l → test (i + k) (getD l k d) ≡ false → everyFrom test i l ≡ false
+  pub from-fails : (l : List A) (i k : ℕ) → k < length l → test (i + k) (getD l k d) ≡ false → everyFrom test i l ≡ false
   from-fails [] i k h e = absurd (not-suc-le-zero h)
   from-fails (x ∷ l) i zero h e = let w : test i x ≡ false = rw add-zero at e in rw w
   from-fails (x ∷ l) i (suc k) h e =
       let w : test (suc i + k) (getD l k d) ≡ false = rw (add-suc, ← suc-add i k) at e in
       rw (from-fails l (suc i) k (le-of-suc-le-suc h) w, and-false)
 
-  from-holds : (l : List A) (i : ℕ) → ((k : ℕ) → k < length l → test (i + k) (getD l k d) ≡ true) → everyFrom test i l ≡ true
+  pub from-holds : (l : List A) (i : ℕ) → ((k : ℕ) → k < length l → test (i + k) (getD l k d) ≡ true) → everyFrom test i l ≡ true
   from-holds [] i h = refl
   from-holds (x ∷ l) i h =
       let w : test i x ≡ true = rw add-zero at (h zero (omega arith)) in

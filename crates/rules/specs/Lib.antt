@@ -4,5 +4,6 @@ pub mod Queueing
 pub mod Turns
 pub mod Falling
 pub mod Listening
+pub mod Recorded
 pub mod Changes
 pub mod Edges

@@ -4,7 +4,7 @@ use mathlib.Core.Bool.{Bool, true, false, _&&_, cond}
 use mathlib.Core.List.{List, [], _∷_}
 use Prim.Native.Nat.{ℕ}
 use lib.Dec.{eqb}
-use lib.ListN.{length, take, drop}
+use lib.ListN.{length}
 use Rattle.minislot.specs.declared.Feedback.{Feedback}
 use Rattle.minislot.specs.declared.Reading.{Reading}
 use Rattle.minislot.specs.Row.{readings, firstNumber, feedbacks}
@@ -39,8 +39,3 @@ listeningOf c words counts =
     cond (withinLimits c)
     (cond (hasRow (c .minislots) words counts) (listenTo c (readings words counts)) (refusedListening c 6))
     (refusedListening c 18)
-
--- LISTENING to the row that begins at a place of a longer recording
-unfoldable pub listeningAtOf : Counters → ℕ → List ℕ → List ℕ → Listened
-listeningAtOf c start words counts =
-    listeningOf c (take (c .minislots) (drop start words)) (take (c .minislots) (drop start counts))

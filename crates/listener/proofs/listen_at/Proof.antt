@@ -2,7 +2,7 @@
 use mathlib.Core.Path.{_≡_, _∙_, sym}
 use lib.ListN.{take, drop}
 use Rattle.minislot.specs.Row.{rowAtOf}
-use Rattle.rules.specs.Listening.{listeningAtOf}
+use Rattle.rules.specs.Recorded.{listeningAtOf}
 use Rattle.rules.proofs.ListeningLaws.{listening-18, row-heard, listening-row}
 use borrow.Author.Needs.{needs}
 use Rattle.listener.proofs.listen_at.Statement.{statement}
