@@ -1,9 +1,28 @@
+-- The rules of paper 01 as definitions.
+-- The counters' rules: Limits, Starting, Hearing, Queueing (step 1), Turns (step 2), Falling (steps 4 and 5), Listening.
+-- The station's rules: StationLimits, Settling (step 1), OwnHearing (refusal 12), Requesting (step 3), Serving (steps 4 and 5), StationCalls.
 pub mod Limits
 pub mod Starting
+pub mod Hearing
 pub mod Queueing
 pub mod Turns
 pub mod Falling
 pub mod Listening
+pub mod StationLimits
+pub mod Settling
+pub mod OwnHearing
+pub mod Requesting
+pub mod Serving
+pub mod StationCalls
+pub mod Lists
+pub mod Soundness
+pub mod Calls
+pub mod ChannelCalls
+pub mod SoundMeaning
+pub mod Messages
+pub mod Plain
+pub mod Positions
+pub mod Demand3
 pub mod Recorded
 pub mod Changes
 pub mod Edges

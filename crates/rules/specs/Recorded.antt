@@ -5,7 +5,10 @@ use Prim.Native.Nat.{ℕ}
 use lib.ListN.{take, drop}
 use Rattle.rules.specs.declared.Counters.{Counters}
 use Rattle.rules.specs.declared.Listened.{Listened}
+use Rattle.rules.specs.declared.Station.{Station}
+use Rattle.rules.specs.declared.StationSlot.{StationSlot}
 use Rattle.rules.specs.Listening.{listeningOf}
+use Rattle.rules.specs.StationCalls.{slotOf}
 
 -- the stretch of m elements from a place on
 abbrev pub stretch : ℕ → ℕ → List ℕ → List ℕ
@@ -14,3 +17,8 @@ stretch m start recording = take m (drop start recording)
 -- listening
 unfoldable pub listeningAtOf : Counters → ℕ → List ℕ → List ℕ → Listened
 listeningAtOf c start words counts = listeningOf c (stretch (c .minislots) start words) (stretch (c .minislots) start counts)
+
+-- a station's slot
+unfoldable pub slotAtOf : Station → ℕ → List ℕ → List ℕ → ℕ → StationSlot
+slotAtOf s start words counts pick =
+    slotOf s (stretch (s .counters .minislots) start words) (stretch (s .counters .minislots) start counts) pick

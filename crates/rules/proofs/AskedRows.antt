@@ -1,0 +1,112 @@
+-- The row that the stations asked there make is the row of the plain channel's asking messages. Assumes nothing.
+use mathlib.Core.Path.{_≡_, refl, sym, ap, subst, _∙_}
+use mathlib.Core.Bool.{Bool, true, false}
+use mathlib.Core.List.{List, [], _∷_, _++_, map}
+use Prim.Native.Nat.{ℕ, zero, suc, _+_, _-_, _≤_, _<_}
+use native.Mathlib.Omega.{arith}
+use lib.ListN.{length}
+use Rattle.rules.proofs.Census.{hearing-eq, gather-of}
+use Rattle.minislot.specs.Row.{weight}
+use Rattle.minislot.specs.declared.Feedback.{Feedback}
+use Rattle.rules.proofs.Clauses.{hearing, read}
+use Rattle.rules.proofs.Relation.{Agrees, askedOf}
+use Rattle.rules.proofs.Shared.{gather, askedSender, askedRow}
+use Rattle.rules.proofs.Views.{Sender, senderAt, requestFrom, eqb-self, seen, atFirst, shifted, atPlace}
+use Rattle.rules.specs.Calls.{Start, index}
+use Rattle.rules.specs.Lists.{keepIf, onlyIf}
+use Rattle.rules.specs.Messages.{Message, ofBy, of}
+use Rattle.rules.specs.Plain.{Plain, plainWeight}
+use Rattle.rules.specs.StationLimits.{Condition, Free, Fresh, Asked, Resolving, Urgent, Long}
+use borrow.Author.Tests.{eqb-true, ne-eqb, eqb-false}
+use lib.Dec.{eqb, eqb·suc-suc}
+
+pub onlyIf-nil {ℓ} : {A : Type ℓ} (b : Bool) → onlyIf {A = A} b [] ≡ []
+onlyIf-nil true = refl
+onlyIf-nil false = refl
+
+pub keepIf-onlyIf {ℓ} : {A : Type ℓ} (b : Bool) (x : A) → keepIf b x [] ≡ onlyIf b (x ∷ [])
+keepIf-onlyIf true x = refl
+keepIf-onlyIf false x = refl
+
+-- entries by keys, through a map that keeps the key
+pub ofBy-map {ℓ κ} : {A : Type ℓ} {B : Type κ} (f : A → B) (position : B → ℕ) (k : ℕ) (l : List A) → ofBy position k (map f l) ≡ map f (ofBy (λ a. position (f a)) k l)
+ofBy-map f position k [] = refl
+ofBy-map {B = B} f position k (x ∷ l) = go (ofBy-map f position k l) (eqb (position (f x)) k)
+  where
+    go : ofBy position k (map f l) ≡ map f (ofBy (λ a. position (f a)) k l) → (b : Bool) → keepIf b (f x) (ofBy position k (map f l)) ≡ map f (keepIf b x (ofBy (λ a. position (f a)) k l))
+    go ih true = ap (λ (z : List B). f x ∷ z) ih
+    go ih false = ih
+
+-- a station's call has the station's key
+pub asked-own : (g i j k : ℕ) (c : Condition) → ofBy (λ s. s .position) k (askedSender g i j c) ≡ onlyIf (eqb j k) (askedSender g i j c)
+asked-own g i j k Free = sym (onlyIf-nil (eqb j k))
+asked-own g i j k (Fresh t) = sym (onlyIf-nil (eqb j k))
+asked-own g i j k (Asked h a t) = go (eqb h g) (eqb a i)
+  where
+    go : (b c : Bool) → ofBy (λ s. s .position) k (onlyIf b (onlyIf c (senderAt j t ∷ []))) ≡ onlyIf (eqb j k) (onlyIf b (onlyIf c (senderAt j t ∷ [])))
+    go true true = keepIf-onlyIf (eqb j k) (senderAt j t)
+    go true false = sym (onlyIf-nil (eqb j k))
+    go false c = sym (onlyIf-nil (eqb j k))
+asked-own g i j k (Resolving h a t) = sym (onlyIf-nil (eqb j k))
+asked-own g i j k (Urgent a) = sym (onlyIf-nil (eqb j k))
+asked-own g i j k (Long f l t) = sym (onlyIf-nil (eqb j k))
+
+-- a place counted from 1 is a test on its number
+shifted-request : (m : Message) (n i : ℕ) → map requestFrom (shifted n (atFirst (m ∷ [])) i) ≡ onlyIf (eqb n i) (requestFrom m ∷ [])
+shifted-request m zero zero = refl
+shifted-request m zero (suc i) = rw (ne-eqb zero (suc i) (λ e. omega arith))
+shifted-request m (suc n) zero = rw (ne-eqb (suc n) zero (λ e. omega arith))
+shifted-request m (suc n) (suc i) = shifted-request m n i ∙ rw (eqb·suc-suc n i)
+
+place-request : (m : Message) (n i : ℕ) → map requestFrom (atPlace n (atFirst (m ∷ [])) i) ≡ onlyIf (eqb n (suc i)) (requestFrom m ∷ [])
+place-request m zero i = rw (ne-eqb zero (suc i) (λ e. omega arith))
+place-request m (suc n) i = shifted-request m n i ∙ rw (eqb·suc-suc n i)
+
+-- minislot i of a row that begins with minislot j
+abbrev up : ℕ → ℕ → ℕ
+up j zero = j
+up j (suc i) = up (suc j) i
+
+up-add : (i j : ℕ) → up j i ≡ j + i
+up-add zero j = omega arith
+up-add (suc i) j = up-add i (suc j) ∙ omega arith
+
+module _ (ix : ℕ → ℕ) (K : ℕ) (condition : ℕ → Condition) (outside : (k : ℕ) → K ≤ k → condition k ≡ Free) (g : ℕ) where
+  rows : (l : List (List Message)) (j : ℕ) → ((i k : ℕ) → map requestFrom (seen (of k) l i) ≡ askedSender g (up j i) k (condition k)) → askedRow ix K condition g (length l) j ≡ map (read ix) l
+  rows [] j h = refl
+  rows (x ∷ l) j h = rw (rows l (suc j) (λ i. h (suc i))) (ap (λ (f : Feedback). f ∷ map (read ix) l) (sym (hearing-eq ix (map requestFrom x) (gather (λ k. askedSender g j k (condition k)) K) each)))
+    where
+      each : (k : ℕ) → ofBy (λ s. s .position) k (map requestFrom x) ≡ ofBy (λ s. s .position) k (gather (λ k. askedSender g j k (condition k)) K)
+      each k =
+          ofBy-map requestFrom (λ s. s .position) k x ∙ h zero k
+          ∙ sym (gather-of (λ s. s .position) (λ k. askedSender g j k (condition k)) (λ a b. asked-own g j a b (condition a)) K (λ k l. rw (outside k l)) k)
+
+-- what a station's own message shows in minislot i + 1
+pub calls : (S : Start) (p : Plain) (g k : ℕ) (m : Message) (c : Condition) → Agrees S p k m c → (i : ℕ) → map requestFrom (askedOf g m c i) ≡ askedSender g (suc i) k c
+calls S p g k m Free a i = refl
+calls S p g k m (Fresh t) a i = refl
+calls S p g k m (Asked h j t) a i = go (eqb h g)
+  where
+    go : (b : Bool) → map requestFrom (onlyIf b (atPlace j (atFirst (m ∷ [])) i)) ≡ onlyIf b (onlyIf (eqb j (suc i)) (senderAt k t ∷ []))
+    go true = place-request m j i ∙ ap (λ (s : Sender). onlyIf (eqb j (suc i)) (s ∷ [])) (let e : m .station ≡ k = a .mine in let f : t ≡ m .slots = a .fits .0 in cc)
+    go false = refl
+calls S p g k m (Resolving h j t) a i = refl
+calls S p g k m (Urgent j) a i = refl
+calls S p g k m (Long f l t) a i = refl
+
+-- the whole row
+pub row-eq : (S : Start) (p : Plain) (condition : ℕ → Condition) (message : ℕ → Message) → ((k : ℕ) → length (S .indexes) ≤ k → condition k ≡ Free) → ((k : ℕ) → Agrees S p k (message k) (condition k)) → (g : ℕ)
+    → askedRow (index S) (length (S .indexes)) condition g (length (p .group g .asking)) 1 ≡ map (read (index S)) (p .group g .asking)
+row-eq S p condition message outside agrees g =
+    rows (index S) (length (S .indexes)) condition outside g (p .group g .asking) 1
+    (λ i k.
+    ap (map requestFrom) (agrees k .asking g i) ∙ calls S p g k (message k) (condition k) (agrees k) i
+    ∙ ap (λ (j : ℕ). askedSender g j k (condition k)) (let e = up-add i 1 in omega arith))
+
+-- the weight heard is the weight of the senders
+pub weight-eq : (ix : ℕ → ℕ) (l : List (List Message)) → weight (map (read ix) l) ≡ plainWeight l
+unfolding weight
+weight-eq ix [] = refl
+weight-eq ix ([] ∷ l) = omega (arith, weight-eq ix l)
+weight-eq ix ((x ∷ []) ∷ l) = ap (λ (n : ℕ). 1 + n) (weight-eq ix l)
+weight-eq ix ((x ∷ y ∷ z) ∷ l) = ap (λ (n : ℕ). 2 + n) (weight-eq ix l)

@@ -1,0 +1,279 @@
+-- Every call keeps the relation and answers alike, refused or not; so does every list of calls after a start. Assumes nothing.
+use mathlib.Core.Path.{_≡_, refl, sym, ap, subst, _∙_}
+use mathlib.Core.Bool.{Bool, true, false, not, cond, _&&_, _||_}
+use mathlib.Core.List.{List, [], _∷_, _++_, map, append-nil, append-assoc}
+use mathlib.Core.Option.{Option, none, some}
+use mathlib.Core.Logic.{_≢_}
+use Prim.Native.Nat.{ℕ, zero, suc, _+_, _-_, _≤_, _<_, _/_, _%_}
+use native.Mathlib.Omega.{arith}
+use lib.Dec.{leb, eqb}
+use lib.ListN.{length, getD, length-append}
+use Rattle.rules.proofs.QueueViews.{length-segments}
+use Rattle.rules.proofs.Landing.{ofBy-append}
+use Rattle.rules.proofs.SlotStep.{and-both, slot-same, slot-answer, settled-eq, passes-eq, length-asking}
+use Rattle.message.specs.Message.{fitsMessage, slotsFor, ceiling}
+use Rattle.rules.proofs.Relation.{lengths, Agrees, Numbered, Same, SameResult, Fits, remaining, whole, freshOf, askedOf, resolvingOf, urgentOf, longOf}
+use Rattle.rules.proofs.Shared.{Table, TableResult, tableStart, tableRefuse, tableAccept, tableOffer, tableCall, tableSettled, tableSlot, tableRow, tableSuccess}
+use Rattle.rules.proofs.Views.{eqb-self, seen}
+use Rattle.rules.specs.Calls.{Start, index, Call, Offer, Slot, Answer, Refused, Taken, Went}
+use Rattle.rules.specs.Lists.{keepIf}
+use Rattle.rules.specs.Messages.{Message, Segment, of, ofBy, segmentsFrom, deliveredOf}
+use Rattle.rules.specs.Plain.{stationFrom, inRange, Plain, PlainResult, plainStart, plainRefuse, plainAccept, plainOffer, plainCall, overflows, waits, slotSum, askingRow, plainSettled, plainSlot}
+use Rattle.rules.specs.Queueing.{passes}
+use Rattle.rules.specs.Serving.{waiting}
+use Rattle.rules.specs.StationCalls.{isFree}
+use Rattle.rules.specs.StationLimits.{Condition, Free, Fresh, Asked, Resolving, Urgent, Long}
+use borrow.Author.Tests.{leb-true, eqb-true, ne-eqb, eqb-false}
+
+-- a refused call changes nothing
+refused : (S : Start) (p : Plain) (t : Table) (n : ℕ) → Same S p t → SameResult S (plainRefuse p n) (tableRefuse t n)
+refused S p t n R = record { state = R; answer = refl }
+
+-- the same test on both sides
+both : (S : Start) (b : Bool) (x x′ : PlainResult) (y y′ : TableResult) → (b ≡ true → SameResult S x y) → (b ≡ false → SameResult S x′ y′) → SameResult S (cond b x x′) (cond b y y′)
+both S true x x′ y y′ f g = f refl
+both S false x x′ y y′ f g = g refl
+
+-- picks that pass the test are in range, and so is the pick of nobody, 1
+pub picks-ok : (m : ℕ) → 1 ≤ m → (l : List ℕ) → inRange m l ≡ true → (k : ℕ) → (1 ≤ getD l k 1) × (getD l k 1 ≤ m)
+picks-ok m h [] e k = (omega arith, h)
+picks-ok m h (x ∷ l) e zero =
+    let (ab, c) = and-both (leb 1 x && leb x m) (inRange m l) e in
+    let (a, b) = and-both (leb 1 x) (leb x m) ab in
+    (leb-true 1 x a, leb-true x m b)
+picks-ok m h (x ∷ l) e (suc k) = let (ab, c) = and-both (leb 1 x && leb x m) (inRange m l) e in picks-ok m h l c k
+
+-- the start
+nobody : (k m j i : ℕ) → seen (of k) (askingRow (λ z. 0) [] m j) i ≡ []
+nobody k zero j i = refl
+nobody k (suc m) j zero = refl
+nobody k (suc m) j (suc i) = nobody k m (suc j) i
+
+pub begin-same : (S : Start) → 1 ≤ S .n → Same S (plainStart S) tableStart
+begin-same S h =
+    record {
+      h = refl;
+      n = refl;
+      rq = λ g. refl;
+      opened = λ g. refl;
+      next = refl;
+      low = omega arith;
+      high = h;
+      rows = λ g. length-asking (λ z. 0) [] (S .m) 1;
+      crowds = λ g. tt;
+      message = λ k. record { serial = 0; station = k; slots = 1 };
+      agrees = λ k.
+          record {
+            mine = refl;
+            some = omega arith;
+            few = omega arith;
+            fresh = refl;
+            urgent = λ i. refl;
+            long = λ i. refl;
+            asking = λ g i. nobody k (S .m) 1 i;
+            resolution = λ g i. refl;
+            owed = refl;
+            fits = tt;
+          };
+      outside = λ k l. refl;
+      strangers = λ k l. refl;
+      numbered = tt;
+      idle = λ g l. (refl, refl);
+      hmax = omega arith;
+      nmax = omega arith;
+      rmax = λ g. omega arith;
+    }
+
+-- a message of station k is not all delivered exactly if the station is not free
+pub length-whole : (l : List Message) → length (whole l) ≡ slotSum l
+length-whole [] = refl
+length-whole (m ∷ l) = length-append (segmentsFrom m (m .slots) 1) (whole l) ∙ rw (length-segments m (m .slots) 1, length-whole l)
+
+pub length-rem : (S : Start) (m : Message) (c : Condition) → Fits S m c → length (remaining m c) ≡ waiting c
+length-rem S m Free f = refl
+length-rem S m (Fresh t) f = length-segments m (m .slots) 1 ∙ sym f
+length-rem S m (Asked g j t) f = length-segments m (m .slots) 1 ∙ sym (f .0)
+length-rem S m (Resolving g i t) f = length-segments m (m .slots) 1 ∙ sym (f .0)
+length-rem S m (Urgent i) f = length-segments m (m .slots) 1 ∙ f .0
+length-rem S m (Long x l t) f = length-segments m l (suc (t - l))
+
+-- THE LEDGER, one station: the slots of its messages taken are those delivered and those that wait
+pub ledger : (S : Start) (p : Plain) (k : ℕ) (m : Message) (c : Condition) → Agrees S p k m c → slotSum (of k (p .taken)) ≡ length (deliveredOf k (p .history)) + waiting c
+ledger S p k m c a =
+    sym (length-whole (of k (p .taken))) ∙ sym (ap length (a .owed)) ∙ length-append (deliveredOf k (p .history)) (remaining m c)
+    ∙ ap (λ (n : ℕ). length (deliveredOf k (p .history)) + n) (length-rem S m c (a .fits))
+
+free-wait : (S : Start) (m : Message) (c : Condition) → 1 ≤ m .slots → Fits S m c → (a b : ℕ) → a ≡ b + waiting c → eqb a b ≡ isFree c
+free-wait S m Free h f a b e = rw (let w : a ≡ b = omega arith in w, eqb-self b)
+free-wait S m (Fresh t) h f a b e = ne-eqb a b (λ w. omega arith)
+free-wait S m (Asked g j t) h f a b e = ne-eqb a b (λ w. omega arith)
+free-wait S m (Resolving g i t) h f a b e = ne-eqb a b (λ w. omega arith)
+free-wait S m (Urgent i) h f a b e = ne-eqb a b (λ w. omega arith)
+free-wait S m (Long x l t) h f a b e = ne-eqb a b (λ w. omega arith)
+
+waits-eq : (S : Start) (p : Plain) (t : Table) → Same S p t → (k : ℕ) → waits p k ≡ not (isFree (t .condition k))
+waits-eq S p t R k =
+    let a = R .agrees k in
+    ap not (free-wait S (R .message k) (t .condition k) a.some a.fits (slotSum (of k (p .taken))) (length (deliveredOf k (p .history))) (ledger S p k (R .message k) (t .condition k) a))
+
+-- an offer taken
+pub is-free : (c : Condition) → isFree c ≡ true → c ≡ Free
+is-free Free e = refl
+is-free (Fresh t) e = cc
+is-free (Asked g j t) e = cc
+is-free (Resolving g i t) e = cc
+is-free (Urgent i) e = cc
+is-free (Long f l t) e = cc
+
+pub station-below : (l : List ℕ) (x j k : ℕ) → stationFrom j l x ≡ some k → k < j + length l
+station-below [] x j k e = let z : _≡_ {A = ℕ} 0 1 = cc in absurd (omega arith)
+station-below (y ∷ l) x j k e = go (station-below l x (suc j) k) (eqb y x) e
+  where
+    go : (stationFrom (suc j) l x ≡ some k → k < suc j + length l) → (b : Bool) → cond b (some j) (stationFrom (suc j) l x) ≡ some k → k < j + suc (length l)
+    go ih true e = let w : j ≡ k = cc in omega arith
+    go ih false e = omega (arith, ih e)
+
+whole-append : (a b : List Message) → whole (a ++ b) ≡ whole a ++ whole b
+whole-append [] b = refl
+whole-append (m ∷ a) b = ap (λ (z : List Segment). segmentsFrom m (m .slots) 1 ++ z) (whole-append a b) ∙ sym (append-assoc (segmentsFrom m (m .slots) 1) (whole a) (whole b))
+
+numbered-more : (l : List Message) (j : ℕ) (m : Message) → m .serial ≡ j + length l → Numbered j l → Numbered j (l ++ (m ∷ []))
+numbered-more [] j m e n = (omega arith, tt)
+numbered-more (x ∷ l) j m e n = (n .0, numbered-more l (suc j) m (omega arith) (n .1))
+
+abbrev newcomer : Plain → ℕ → ℕ → Message
+newcomer p k s = record { serial = length (p .taken); station = k; slots = s }
+
+module _ (S : Start) (p : Plain) (t : Table) (R : Same S p t) (k s : ℕ) (inside : k < length (S .indexes)) (free : t .condition k ≡ Free) (some : 1 ≤ s) (few : s ≤ 255) where
+  accept-own : Agrees S (plainAccept p (newcomer p k s) .state) k (newcomer p k s) (Fresh s)
+  accept-own =
+      record {
+        mine = refl;
+        some = some;
+        few = few;
+        fresh = ofBy-append (λ (m : Message). m .station) k (p .fresh) (newcomer p k s ∷ []) ∙ rw (a .fresh, eqb-self k);
+        urgent = a .urgent;
+        long = a .long;
+        asking = a .asking;
+        resolution = a .resolution;
+        owed =
+            ap (λ (z : List Segment). z ++ segmentsFrom (newcomer p k s) s 1) (sym (append-nil (deliveredOf k (p .history))) ∙ a .owed)
+            ∙ ap (λ (z : List Segment). whole (of k (p .taken)) ++ z) (sym (append-nil (segmentsFrom (newcomer p k s) s 1)))
+            ∙ sym (whole-append (of k (p .taken)) (newcomer p k s ∷ []))
+            ∙ ap whole (sym more);
+        fits = refl;
+      }
+    where
+      more : of k (p .taken ++ (newcomer p k s ∷ [])) ≡ of k (p .taken) ++ (newcomer p k s ∷ [])
+      more = ofBy-append (λ (m : Message). m .station) k (p .taken) (newcomer p k s ∷ []) ∙ rw (eqb-self k)
+
+      a : Agrees S p k (R .message k) Free
+      a = rw free at (R .agrees k)
+
+  accept-other : (i : ℕ) → eqb i k ≡ false → Agrees S (plainAccept p (newcomer p k s) .state) i (R .message i) (t .condition i)
+  accept-other i e =
+      record {
+        mine = a .mine;
+        some = a .some;
+        few = a .few;
+        fresh = ofBy-append (λ (m : Message). m .station) i (p .fresh) (newcomer p k s ∷ []) ∙ rw (far, append-nil) (a .fresh);
+        urgent = a .urgent;
+        long = a .long;
+        asking = a .asking;
+        resolution = a .resolution;
+        owed = a .owed ∙ ap whole (sym none-more);
+        fits = a .fits;
+      }
+    where
+      a : Agrees S p i (R .message i) (t .condition i)
+      a = R .agrees i
+
+      far : eqb k i ≡ false
+      far = ne-eqb k i (λ w. eqb-false i k e (sym w))
+
+      none-more : of i (p .taken ++ (newcomer p k s ∷ [])) ≡ of i (p .taken)
+      none-more = ofBy-append (λ (m : Message). m .station) i (p .taken) (newcomer p k s ∷ []) ∙ rw (far, append-nil)
+
+  accept-same : SameResult S (plainAccept p (newcomer p k s)) (tableAccept t k s)
+  accept-same =
+      record {
+        state =
+            record {
+              h = R .h;
+              n = R .n;
+              rq = R .rq;
+              opened = R .opened;
+              next = R .next;
+              low = R .low;
+              high = R .high;
+              rows = R .rows;
+              crowds = R .crowds;
+              message = λ i. cond (eqb i k) (newcomer p k s) (R .message i);
+              agrees = λ i. go i (eqb i k) refl;
+              outside = λ i l. rw (ne-eqb i k (λ w. omega arith)) (R .outside i l);
+              strangers = λ i l. ofBy-append (λ (m : Message). m .station) i (p .taken) (newcomer p k s ∷ []) ∙ rw (ne-eqb k i (λ w. omega arith), append-nil) (R .strangers i l);
+              numbered = numbered-more (p .taken) 0 (newcomer p k s) (omega arith) (R .numbered);
+              idle = R .idle;
+              hmax = R .hmax;
+              nmax = R .nmax;
+              rmax = R .rmax;
+            };
+        answer = refl;
+      }
+    where
+      go : (i : ℕ) (b : Bool) → eqb i k ≡ b → Agrees S (plainAccept p (newcomer p k s) .state) i (cond b (newcomer p k s) (R .message i)) (cond b (Fresh s) (t .condition i))
+      go i true e = rw (eqb-true i k e) accept-own
+      go i false e = accept-other i e
+
+-- a message that fits takes 1 to 255 slots
+pub good-size : (bytes : ℕ) → fitsMessage bytes ≡ true → (1 ≤ slotsFor bytes) × (slotsFor bytes ≤ 255)
+unfolding fitsMessage slotsFor ceiling
+good-size bytes e = go (eqb (bytes % 48) 0) refl
+  where
+    sides : (1 ≤ bytes) × (bytes ≤ 12240)
+    sides = let (a, b) = and-both (leb 1 bytes) (leb bytes 12240) e in (leb-true 1 bytes a, leb-true bytes 12240 b)
+
+    go : (b : Bool) → eqb (bytes % 48) 0 ≡ b → (1 ≤ cond b (bytes / 48) (bytes / 48 + 1)) × (cond b (bytes / 48) (bytes / 48 + 1) ≤ 255)
+    go true w = let z : bytes % 48 ≡ 0 = eqb-true (bytes % 48) 0 w in omega (arith, sides)
+    go false w = let z : bytes % 48 ≢ 0 = eqb-false (bytes % 48) 0 w in omega (arith, sides)
+
+cond-not {ℓ} : {A : Type ℓ} (b : Bool) (x y : A) → cond (not b) x y ≡ cond b y x
+cond-not true x y = refl
+cond-not false x y = refl
+
+-- THE STEP: every call, refused or not, keeps the relation and answers alike
+module _ (S : Start) (ml : 1 ≤ S .m) (p : Plain) (t : Table) (R : Same S p t) where
+  offer-same : (bytes : ℕ) (o : Option ℕ) → ((k : ℕ) → o ≡ some k → k < length (S .indexes)) → SameResult S (plainOffer p bytes o) (tableOffer t bytes o)
+  offer-same bytes none h = refused S p t 16 R
+  offer-same bytes (some k) h =
+      rw (waits-eq S p t R k, cond-not (isFree (t .condition k)))
+      (both S (isFree (t .condition k)) _ _ _ _
+      (λ e. both S (fitsMessage bytes) _ _ _ _ (λ f. accept-same S p t R k (slotsFor bytes) (h k refl) (is-free (t .condition k) e) (good-size bytes f .0) (good-size bytes f .1)) (λ f. refused S p t 10 R))
+      (λ e. refused S p t 9 R))
+
+  slot-go : (picks : List ℕ) → inRange (S .m) picks ≡ true
+      → SameResult S (cond (overflows (plainSettled p)) (plainRefuse p 7) (plainSlot S (λ k. getD picks k 1) p))
+      (cond (passes (tableSettled S t)) (tableRefuse t 7) (tableSlot S (λ k. getD picks k 1) t (tableRow S t) (tableSuccess t (tableRow S t)) (tableSettled S t)))
+  slot-go picks b = go (passes (tableSettled S t)) (ap passes (settled-eq S p t R) ∙ passes-eq (plainSettled p))
+    where
+      pick : ℕ → ℕ
+      pick k = getD picks k 1
+
+      jl : (k : ℕ) → 1 ≤ getD picks k 1
+      jl k = picks-ok (S .m) ml picks b k .0
+
+      jh : (k : ℕ) → getD picks k 1 ≤ S .m
+      jh k = picks-ok (S .m) ml picks b k .1
+
+      go : (x : Bool) → x ≡ overflows (plainSettled p)
+          → SameResult S (cond (overflows (plainSettled p)) (plainRefuse p 7) (plainSlot S (λ k. getD picks k 1) p))
+          (cond x (tableRefuse t 7) (tableSlot S (λ k. getD picks k 1) t (tableRow S t) (tableSuccess t (tableRow S t)) (tableSettled S t)))
+      go true e = rw (← e) (refused S p t 7 R)
+      go false e = rw (← e) (record { state = slot-same S pick jl jh p t R (sym e); answer = slot-answer S pick jl jh p t R })
+
+  pub call-same : (c : Call) → SameResult S (plainCall S p c) (tableCall S t c)
+  call-same (Offer x bytes) = offer-same bytes (stationFrom 0 (S .indexes) x) (λ k e. omega (arith, station-below (S .indexes) x 0 k e))
+  call-same (Slot picks) =
+      both S (eqb (length picks) (length (S .indexes))) _ _ _ _
+      (λ a. both S (inRange (S .m) picks) _ _ _ _ (λ b. slot-go picks b) (λ b. refused S p t 11 R))
+      (λ a. refused S p t 17 R)

@@ -1,0 +1,136 @@
+-- The station's rules by clauses on places and lengths, as the proof by induction takes them apart. Each is the rule of specs/ in another shape:
+-- proofs/ClauseLaws proves them equal. Assumes nothing.
+use mathlib.Core.Bool.{Bool, true, false, _&&_, cond}
+use mathlib.Core.List.{List, [], _∷_, _++_, map}
+use Prim.Native.Nat.{ℕ, zero, suc, _+_, _-_, _≤_}
+use lib.Dec.{eqb}
+use lib.ListN.{length}
+use Rattle.minislot.specs.declared.Feedback.{Feedback}
+use Rattle.minislot.specs.declared.Feedback.the-variants.{Empty, Single, Collide}
+use Rattle.rules.specs.declared.Places.{Places}
+use Rattle.rules.specs.Lists.{onlyIf}
+use Rattle.rules.specs.Messages.{Message}
+use Rattle.rules.specs.Queueing.{queued}
+use Rattle.rules.specs.StationLimits.{Condition, Free, Fresh, Asked, Resolving, Urgent, Long}
+use Rattle.rules.specs.Settling.{standsAfter}
+use Rattle.rules.proofs.Views.{Sender, senderAt, requestFrom}
+
+-- what is read of these senders; `index` is the table's
+abbrev pub hearing : (ℕ → ℕ) → List Sender → Feedback
+hearing index [] = Empty
+hearing index (x ∷ []) = Single (index (x .position)) (x .value)
+hearing index (x ∷ y ∷ l) = Collide
+
+abbrev pub read : (ℕ → ℕ) → List Message → Feedback
+read index l = hearing index (map requestFrom l)
+
+abbrev pub loneIndexOf : Feedback → ℕ
+loneIndexOf Empty = 0
+loneIndexOf (Single i s) = i
+loneIndexOf Collide = 0
+
+abbrev pub loneNumberOf : Feedback → ℕ
+loneNumberOf Empty = 0
+loneNumberOf (Single i s) = s
+loneNumberOf Collide = 0
+
+-- the station asked in minislot j (from 1) of the row: its minislot, with the lengths of the minislots before
+abbrev pub after : Bool → ℕ → List Feedback → Places → ℕ → ℕ → Condition
+after b g [] c j t = Free
+after b g (f ∷ row) c zero t = Free
+after b g (f ∷ row) c (suc zero) t = standsAfter b g c f t
+after b g (f ∷ row) c (suc (suc j)) t = after b g row (queued b c f) (suc j) t
+
+-- step 1 for any condition
+abbrev pub settle : Bool → ℕ → List Feedback → Places → Condition → Condition
+settle b g row c Free = Free
+settle b g row c (Fresh t) = Fresh t
+settle b g row c (Asked h j t) = cond (eqb h g) (after b g row c j t) (Asked h j t)
+settle b g row c (Resolving h i t) = Resolving h i t
+settle b g row c (Urgent i) = Urgent i
+settle b g row c (Long f l t) = Long f l t
+
+-- step 3 and RQ's part of step 5
+abbrev pub front : Bool → ℕ → ℕ → ℕ → ℕ → ℕ → Condition
+front false g j h i t = Resolving h i t
+front true g j h zero t = Resolving h zero t
+front true g j h (suc zero) t = Asked g j t
+front true g j h (suc (suc i)) t = Resolving h (suc i) t
+
+abbrev pub asks : ℕ → ℕ → ℕ → Condition → Condition
+asks zero g j Free = Free
+asks zero g j (Fresh t) = Asked g j t
+asks zero g j (Asked h i t) = Asked h i t
+asks zero g j (Resolving h i t) = Resolving h i t
+asks zero g j (Urgent i) = Urgent i
+asks zero g j (Long f l t) = Long f l t
+asks (suc r) g j Free = Free
+asks (suc r) g j (Fresh t) = Fresh t
+asks (suc r) g j (Asked h i t) = Asked h i t
+asks (suc r) g j (Resolving h i t) = front (eqb h g) g j h i t
+asks (suc r) g j (Urgent i) = Urgent i
+asks (suc r) g j (Long f l t) = Long f l t
+
+-- step 4 and the rest of step 5, by H and N after step 1
+abbrev pub lower : ℕ → Condition
+lower zero = Urgent zero
+lower (suc zero) = Free
+lower (suc (suc i)) = Urgent (suc i)
+
+abbrev pub shorter : ℕ → ℕ → ℕ → Condition
+shorter zero l t = Long zero l t
+shorter (suc zero) zero t = Free
+shorter (suc zero) (suc zero) t = Free
+shorter (suc zero) (suc (suc l)) t = Long 1 (suc l) t
+shorter (suc (suc f)) l t = Long (suc f) l t
+
+abbrev pub falls : ℕ → ℕ → Condition → Condition
+falls h n Free = Free
+falls h n (Fresh t) = Fresh t
+falls h n (Asked g j t) = Asked g j t
+falls h n (Resolving g i t) = Resolving g i t
+falls zero n (Urgent i) = Urgent i
+falls (suc h) n (Urgent i) = lower i
+falls zero zero (Long f l t) = Long f l t
+falls zero (suc n) (Long f l t) = shorter f l t
+falls (suc h) n (Long f l t) = Long f l t
+
+-- step 4: the segment that a station sends, 0 for none; the slots that the queues deliver
+abbrev pub sendsBy : ℕ → ℕ → ℕ → Condition → ℕ
+sendsBy h n r Free = 0
+sendsBy zero zero zero (Fresh t) = cond (eqb t 1) 1 0
+sendsBy zero zero (suc r) (Fresh t) = 0
+sendsBy zero (suc n) r (Fresh t) = 0
+sendsBy (suc h) n r (Fresh t) = 0
+sendsBy h n r (Asked g j t) = 0
+sendsBy h n r (Resolving g i t) = 0
+sendsBy zero n r (Urgent i) = 0
+sendsBy (suc h) n r (Urgent i) = cond (eqb i 1) 1 0
+sendsBy (suc h) n r (Long f l t) = 0
+sendsBy zero zero r (Long f l t) = 0
+sendsBy zero (suc n) r (Long f l t) = cond (eqb f 1) (suc (t - l)) 0
+
+abbrev pub serves : ℕ → ℕ → ℕ
+serves (suc h) n = 1
+serves zero (suc n) = 1
+serves zero zero = 0
+
+-- step 5: a counter that falls if it is not 0; N after the slot
+abbrev pub less : ℕ → ℕ
+less zero = zero
+less (suc n) = n
+
+abbrev pub nLeft : ℕ → ℕ → ℕ
+nLeft zero n = less n
+nLeft (suc h) n = n
+
+-- step 3: station k's request in minislot j of group g, with RQ r after step 1, its pick, and its condition after step 1
+abbrev pub requestSender : ℕ → ℕ → ℕ → ℕ → ℕ → Condition → List Sender
+requestSender r g pick j k Free = []
+requestSender zero g pick j k (Fresh t) = onlyIf (eqb pick j) (senderAt k t ∷ [])
+requestSender (suc r) g pick j k (Fresh t) = []
+requestSender r g pick j k (Asked h i t) = []
+requestSender zero g pick j k (Resolving h i t) = []
+requestSender (suc r) g pick j k (Resolving h i t) = onlyIf (eqb h g) (onlyIf (eqb i 1) (onlyIf (eqb pick j) (senderAt k t ∷ [])))
+requestSender r g pick j k (Urgent i) = []
+requestSender r g pick j k (Long f l t) = []

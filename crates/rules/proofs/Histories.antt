@@ -1,0 +1,138 @@
+-- The history, message by message: the deliveries of each message taken are its segments 1 to d in order. Assumes nothing.
+use mathlib.Core.Path.{_≡_, refl, sym, ap, subst, _∙_}
+use mathlib.Core.Bool.{Bool, true, false}
+use mathlib.Core.List.{List, [], _∷_, _++_, List·Memᴰ, List·Memᴰ·cases-cons, List·Memᴰ·not-nil, append-nil}
+use mathlib.Core.Logic.{_≢_, _⊎_, inl, inr, ⊎-elim}
+use Prim.Native.Nat.{ℕ, zero, suc, _+_, _-_, _≤_, _<_}
+use native.Mathlib.Omega.{arith}
+use lib.ListN.{length, length-append}
+use Rattle.rules.proofs.QueueViews.{length-segments}
+use Rattle.rules.proofs.Landing.{ofBy-append}
+use Rattle.rules.proofs.CallStep.{length-rem}
+use Rattle.rules.proofs.Relation.{Fits, Agrees, Same, Numbered, whole, remaining}
+use Rattle.rules.proofs.Shared.{Table}
+use Rattle.rules.proofs.Views.{eqb-self}
+use Rattle.rules.specs.Calls.{Start}
+use Rattle.rules.specs.Lists.{keepIf, onlyIf}
+use Rattle.rules.specs.Messages.{deliveredFor, Message, Segment, of, ofBy, segmentsFrom, segment, deliveredOf}
+use Rattle.rules.specs.Plain.{Plain}
+use Rattle.rules.specs.Serving.{waiting}
+use Rattle.rules.specs.StationLimits.{Condition, Free, Fresh, Asked, Resolving, Urgent, Long}
+use borrow.Author.Tests.{eqb-true, ne-eqb, eqb-false}
+use lib.Dec.{eqb}
+
+-- a first part of a run is a run
+prefix : (m : Message) (n s : ℕ) (a b : List Segment) → a ++ b ≡ segmentsFrom m n s → a ≡ segmentsFrom m (length a) s
+prefix m n s [] b e = refl
+prefix m zero s (x ∷ a) b e = cc
+prefix m (suc n) s (x ∷ a) b e = let h : x ≡ segment m s = cc in let r : a ++ b ≡ segmentsFrom m n (suc s) = cc in rw (h, ← (prefix m n (suc s) a b r))
+
+-- a message's own segments, and another's
+for-own : (m : Message) (x : ℕ) → eqb (m .serial) x ≡ true → (n s : ℕ) → deliveredFor x (segmentsFrom m n s) ≡ segmentsFrom m n s
+for-own m x e zero s = refl
+for-own m x e (suc n) s = rw e (ap (λ (l : List Segment). segment m s ∷ l) (for-own m x e n (suc s)))
+
+for-other : (m : Message) (x : ℕ) → eqb (m .serial) x ≡ false → (n s : ℕ) → deliveredFor x (segmentsFrom m n s) ≡ []
+for-other m x e zero s = refl
+for-other m x e (suc n) s = rw e (for-other m x e n (suc s))
+
+-- serials before the numbering begins do not occur
+for-none : (k x : ℕ) (l : List Message) (j : ℕ) → Numbered j l → x < j → deliveredFor x (whole (of k l)) ≡ []
+for-none k x [] j n h = refl
+for-none k x (m ∷ l) j n h = go (for-none k x l (suc j) (n .1) (omega arith)) (eqb (m .station) k)
+  where
+    go : deliveredFor x (whole (of k l)) ≡ [] → (b : Bool) → deliveredFor x (whole (keepIf b m (of k l))) ≡ []
+    go ih true = ofBy-append (λ (s : Segment). s .message .serial) x (segmentsFrom m (m .slots) 1) (whole (of k l)) ∙ rw (for-other m x (ne-eqb (m .serial) x (λ e. omega arith)) (m .slots) 1) ih
+    go ih false = ih
+
+for-serial : (m : Message) (l : List Message) (j : ℕ) → Numbered j l → List·Memᴰ m l → j ≤ m .serial
+for-serial m [] j n h = absurd (List·Memᴰ·not-nil h)
+for-serial m (y ∷ l) j n h = ⊎-elim (λ e. go e) (λ w. omega (arith, for-serial m l (suc j) (n .1) w)) (List·Memᴰ·cases-cons h)
+  where
+    go : m ≡ y → j ≤ m .serial
+    go e = rw e (omega arith)
+
+-- of all segments of station k's messages, those of message m: all of m's, if m is station k's
+for-whole : (k : ℕ) (m : Message) (l : List Message) (j : ℕ) → Numbered j l → List·Memᴰ m l → deliveredFor (m .serial) (whole (of k l)) ≡ onlyIf (eqb (m .station) k) (segmentsFrom m (m .slots) 1)
+for-whole k m [] j n h = absurd (List·Memᴰ·not-nil h)
+for-whole k m (y ∷ l) j n h = ⊎-elim here (λ w. there w (for-whole k m l (suc j) (n .1) w)) (List·Memᴰ·cases-cons h)
+  where
+    here : m ≡ y → deliveredFor (m .serial) (whole (of k (y ∷ l))) ≡ onlyIf (eqb (m .station) k) (segmentsFrom m (m .slots) 1)
+    here e = rw e (go (for-none k (y .serial) l (suc j) (n .1) (omega arith)) (eqb (y .station) k))
+      where
+        go : deliveredFor (y .serial) (whole (of k l)) ≡ [] → (b : Bool) → deliveredFor (y .serial) (whole (keepIf b y (of k l))) ≡ onlyIf b (segmentsFrom y (y .slots) 1)
+        go ih true =
+            ofBy-append (λ (s : Segment). s .message .serial) (y .serial) (segmentsFrom y (y .slots) 1) (whole (of k l))
+            ∙ rw (for-own y (y .serial) (eqb-self (y .serial)) (y .slots) 1, ih) (append-nil (segmentsFrom y (y .slots) 1))
+        go ih false = ih
+
+    there : List·Memᴰ m l → deliveredFor (m .serial) (whole (of k l)) ≡ onlyIf (eqb (m .station) k) (segmentsFrom m (m .slots) 1) → deliveredFor (m .serial) (whole (of k (y ∷ l))) ≡ onlyIf (eqb (m .station) k) (segmentsFrom m (m .slots) 1)
+    there w ih = go (eqb (y .station) k)
+      where
+        go : (b : Bool) → deliveredFor (m .serial) (whole (keepIf b y (of k l))) ≡ onlyIf (eqb (m .station) k) (segmentsFrom m (m .slots) 1)
+        go true =
+            ofBy-append (λ (s : Segment). s .message .serial) (m .serial) (segmentsFrom y (y .slots) 1) (whole (of k l))
+            ∙ rw (for-other y (m .serial) (ne-eqb (y .serial) (m .serial) (λ e. omega (arith, for-serial m l (suc j) (n .1) w))) (y .slots) 1) ih
+        go false = ih
+
+-- entries of one serial that no other station has are one station's
+one-station : (x k : ℕ) (l : List Segment) → ((i : ℕ) → i ≢ k → deliveredFor x (deliveredOf i l) ≡ []) → deliveredFor x l ≡ deliveredFor x (deliveredOf k l)
+one-station x k [] h = refl
+one-station x k (s ∷ l) h = go (one-station x k l (λ i ne. less-one i (eqb (s .message .station) i) (h i ne))) (eqb (s .message .serial) x) refl (eqb (s .message .station) k) refl
+  where
+    less-two : (i : ℕ) (c : Bool) → keepIf c s (deliveredFor x (deliveredOf i l)) ≡ [] → deliveredFor x (deliveredOf i l) ≡ []
+    less-two i true e = cc
+    less-two i false e = e
+
+    less-one : (i : ℕ) (b : Bool) → deliveredFor x (keepIf b s (deliveredOf i l)) ≡ [] → deliveredFor x (deliveredOf i l) ≡ []
+    less-one i true e = less-two i (eqb (s .message .serial) x) e
+    less-one i false e = e
+
+    go : deliveredFor x l ≡ deliveredFor x (deliveredOf k l) → (a : Bool) → eqb (s .message .serial) x ≡ a → (b : Bool) → eqb (s .message .station) k ≡ b
+        → keepIf (eqb (s .message .serial) x) s (deliveredFor x l) ≡ deliveredFor x (keepIf b s (deliveredOf k l))
+    go ih a e true f = ap (λ (z : List Segment). keepIf (eqb (s .message .serial) x) s z) ih
+    go ih false e false f = rw e ih
+    go ih true e false f = cc (h (s .message .station) (eqb-false (s .message .station) k f), eqb-self (s .message .station))
+
+none-left : (a b : List Segment) → a ++ b ≡ [] → a ≡ []
+none-left [] b e = refl
+none-left (x ∷ a) b e = cc
+
+module _ (S : Start) (p : Plain) (t : Table) (R : Same S p t) (m : Message) (h : List·Memᴰ m (p .taken)) where
+  part-of : (k : ℕ) → deliveredFor (m .serial) (deliveredOf k (p .history)) ++ deliveredFor (m .serial) (remaining (R .message k) (t .condition k)) ≡ onlyIf (eqb (m .station) k) (segmentsFrom m (m .slots) 1)
+  part-of k =
+      sym (ofBy-append (λ (s : Segment). s .message .serial) (m .serial) (deliveredOf k (p .history)) (remaining (R .message k) (t .condition k)))
+      ∙ ap (deliveredFor (m .serial)) (R .agrees k .owed)
+      ∙ for-whole k m (p .taken) 0 (R .numbered) h
+
+  -- what waits in the station is of one message
+  waiting-for : (x : ℕ) (n : Message) (c : Condition) → Fits S n c → (deliveredFor x (remaining n c) ≡ []) ⊎ (length (deliveredFor x (remaining n c)) ≡ waiting c)
+  waiting-for x n c f = go (eqb (n .serial) x) refl c f
+    where
+      go : (b : Bool) → eqb (n .serial) x ≡ b → (c : Condition) → Fits S n c → (deliveredFor x (remaining n c) ≡ []) ⊎ (length (deliveredFor x (remaining n c)) ≡ waiting c)
+      go true e Free f = inl refl
+      go true e (Fresh t) f = inr (ap length (for-own n x e (n .slots) 1) ∙ length-rem S n (Fresh t) f)
+      go true e (Asked g j t) f = inr (ap length (for-own n x e (n .slots) 1) ∙ length-rem S n (Asked g j t) f)
+      go true e (Resolving g i t) f = inr (ap length (for-own n x e (n .slots) 1) ∙ length-rem S n (Resolving g i t) f)
+      go true e (Urgent i) f = inr (ap length (for-own n x e (n .slots) 1) ∙ length-rem S n (Urgent i) f)
+      go true e (Long y l t) f = inr (ap length (for-own n x e l (suc (t - l))) ∙ length-rem S n (Long y l t) f)
+      go false e Free f = inl refl
+      go false e (Fresh t) f = inl (for-other n x e (n .slots) 1)
+      go false e (Asked g j t) f = inl (for-other n x e (n .slots) 1)
+      go false e (Resolving g i t) f = inl (for-other n x e (n .slots) 1)
+      go false e (Urgent i) f = inl (for-other n x e (n .slots) 1)
+      go false e (Long y l t) f = inl (for-other n x e l (suc (t - l)))
+
+  -- the message's deliveries are its first segments, in order, and the rest wait in its station
+  pub history-of : (d : ℕ) × (d ≤ m .slots) × (deliveredFor (m .serial) (p .history) ≡ segmentsFrom m d 1) × (d < m .slots → waiting (t .condition (m .station)) ≡ m .slots - d)
+  history-of =
+      let e = one-station (m .serial) (m .station) (p .history) (λ i ne. none-left _ _ (part-of i ∙ rw (ne-eqb (m .station) i (λ w. ne (sym w))))) in
+      let w = rw (eqb-self (m .station)) at (part-of (m .station)) in
+      let v = ap length w in (
+        length (deliveredFor (m .serial) (deliveredOf (m .station) (p .history))),
+        omega (arith, simp length-append at v, length-segments m (m .slots) 1),
+        e ∙ prefix m (m .slots) 1 (deliveredFor (m .serial) (deliveredOf (m .station) (p .history))) _ w,
+        λ l.
+            ⊎-elim (λ q. absurd (omega (arith, ap length q, simp length-append at v, length-segments m (m .slots) 1))) (λ q. omega (arith, simp length-append at v, length-segments m (m .slots) 1))
+            (waiting-for (m .serial) (R .message (m .station)) (t .condition (m .station)) (R .agrees (m .station) .fits)),
+      )

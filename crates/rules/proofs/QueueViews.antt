@@ -1,0 +1,79 @@
+-- Laws of `seen`, `late` and `of`: what one station sees of a queue that grew, by places. Assumes nothing.
+use mathlib.Core.Path.{_≡_, refl, sym, ap, _∙_}
+use mathlib.Core.Bool.{Bool, true, false, true≢false, false≢true}
+use mathlib.Core.List.{List, [], _∷_, _++_}
+use Prim.Native.Nat.{ℕ, zero, suc, _+_, _-_, _≤_, _<_}
+use native.Mathlib.Omega.{arith}
+use lib.ListN.{length}
+use Rattle.rules.proofs.Views.{eqb-self, seen, atFirst, shifted, atPlace, run}
+use Rattle.rules.specs.Lists.{keepIf, onlyIf}
+use Rattle.rules.specs.Messages.{Message, Segment, of, segment, segmentsFrom}
+use Rattle.rules.specs.Positions.{one, part}
+use borrow.Author.Tests.{eqb-true}
+use lib.Dec.{eqb}
+
+module _ {ℓ κ} {A : Type ℓ} {E : Type κ} (f : A → List E) where
+  -- newcomers of which nothing is seen change nothing
+  pub seen-more : (q r : List A) → ((i : ℕ) → seen f r i ≡ []) → (i : ℕ) → seen f (q ++ r) i ≡ seen f q i
+  seen-more [] r h i = h i
+  seen-more (x ∷ q) r h zero = refl
+  seen-more (x ∷ q) r h (suc i) = seen-more q r h i
+
+  -- behind a queue of which nothing is seen, newcomers are seen at the new last places
+  pub seen-behind : (q r : List A) → ((i : ℕ) → seen f q i ≡ []) → (i : ℕ) → seen f (q ++ r) i ≡ shifted (length q) (seen f r) i
+  seen-behind [] r h i = refl
+  seen-behind (x ∷ q) r h zero = h zero
+  seen-behind (x ∷ q) r h (suc i) = seen-behind q r (λ j. h (suc j)) i
+
+  pub seen-one : (x : A) (i : ℕ) → seen f (x ∷ []) i ≡ atFirst (f x) i
+  seen-one x zero = refl
+  seen-one x (suc i) = refl
+
+module _ {ℓ} {E : Type ℓ} where
+  pub shifted-cong : (n : ℕ) (u v : ℕ → List E) → ((i : ℕ) → u i ≡ v i) → (i : ℕ) → shifted n u i ≡ shifted n v i
+  shifted-cong zero u v h i = h i
+  shifted-cong (suc n) u v h zero = refl
+  shifted-cong (suc n) u v h (suc i) = shifted-cong n u v h i
+
+  pub shifted-at : (n : ℕ) (x : List E) → shifted n (atFirst x) n ≡ x
+  shifted-at zero x = refl
+  shifted-at (suc n) x = shifted-at n x
+
+  pub first-nil : (i : ℕ) → atFirst {E = E} [] i ≡ []
+  first-nil zero = refl
+  first-nil (suc i) = refl
+
+  pub shifted-nil : (n i : ℕ) → shifted {E = E} n (atFirst []) i ≡ []
+  shifted-nil zero i = first-nil i
+  shifted-nil (suc n) zero = refl
+  shifted-nil (suc n) (suc i) = shifted-nil n i
+
+-- a whole message's segments, seen by its own station and by another
+pub run-own : (k : ℕ) (m : Message) → eqb (m .station) k ≡ true → (n s i : ℕ) → seen (part k) (segmentsFrom m n s) i ≡ run m n s i
+run-own k m e zero s i = refl
+run-own k m e (suc n) s zero = rw e
+run-own k m e (suc n) s (suc i) = run-own k m e n (suc s) i
+
+pub run-other : (k : ℕ) (m : Message) → eqb (m .station) k ≡ false → (n s i : ℕ) → seen (part k) (segmentsFrom m n s) i ≡ []
+run-other k m e zero s i = refl
+run-other k m e (suc n) s zero = rw e
+run-other k m e (suc n) s (suc i) = run-other k m e n (suc s) i
+
+pub length-segments : (m : Message) (n s : ℕ) → length (segmentsFrom m n s) ≡ n
+length-segments m zero s = refl
+length-segments m (suc n) s = ap suc (length-segments m n (suc s))
+
+-- a lone sender is the station's own, or another's
+pub lone-own : (k : ℕ) (m n : Message) → of k (n ∷ []) ≡ m ∷ [] → (eqb (n .station) k ≡ true) × (n ≡ m)
+lone-own k m n e = go (eqb (n .station) k) refl
+  where
+    go : (b : Bool) → eqb (n .station) k ≡ b → (eqb (n .station) k ≡ true) × (n ≡ m)
+    go true s = (s, cc)
+    go false s = let z : _≡_ {A = ℕ} 0 1 = cc in absurd (omega arith)
+
+pub lone-other : (k : ℕ) (n : Message) → of k (n ∷ []) ≡ [] → eqb (n .station) k ≡ false
+lone-other k n e = go (eqb (n .station) k) refl
+  where
+    go : (b : Bool) → eqb (n .station) k ≡ b → eqb (n .station) k ≡ false
+    go true s = cc
+    go false s = s

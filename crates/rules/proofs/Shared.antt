@@ -1,0 +1,135 @@
+-- The table as one set of counters that all stations share and a condition for each position, and its calls: the middle between the plain channel and
+-- the records. What is read of the wire is stated of the stations asked there. Assumes nothing.
+use mathlib.Core.Bool.{Bool, true, false, not, _&&_, cond}
+use mathlib.Core.List.{List, [], _∷_, _++_, map}
+use mathlib.Core.Option.{Option, none, some}
+use Prim.Native.Nat.{ℕ, zero, suc, _+_}
+use lib.Dec.{eqb}
+use lib.ListN.{length, getD}
+use Rattle.minislot.specs.declared.Feedback.{Feedback}
+use Rattle.minislot.specs.Row.{weight}
+use Rattle.message.specs.Message.{fitsMessage, slotsFor}
+use Rattle.rules.specs.declared.Places.{Places}
+use Rattle.rules.specs.Lists.{onlyIf}
+use Rattle.rules.specs.Queueing.{immediate, queuedRow, passes}
+use Rattle.rules.specs.Turns.{Turn, turnOf, isOpen}
+use Rattle.rules.specs.Falling.{following}
+use Rattle.rules.specs.StationLimits.{Condition, Free, Fresh, Asked, Resolving, Urgent, Long}
+use Rattle.rules.specs.StationCalls.{isFree}
+use Rattle.rules.specs.ChannelCalls.{successes}
+use Rattle.rules.specs.Calls.{Start, index, Answer, Refused, Taken, Went, Call, Offer, Slot}
+use Rattle.rules.specs.Plain.{stationFrom, inRange}
+use Rattle.rules.proofs.Views.{Sender, senderAt}
+use Rattle.rules.proofs.Clauses.{hearing, loneIndexOf, loneNumberOf, settle, asks, falls, sendsBy, serves, nLeft, less}
+
+pub record Table : Type 0 where
+  pub h : ℕ
+  pub n : ℕ
+  pub rq : ℕ → ℕ
+  pub opened : ℕ → Bool
+  pub next : ℕ
+  pub condition : ℕ → Condition
+
+pub record TableResult : Type 0 where
+  pub state : Table
+  pub answer : Answer
+
+abbrev pub tableStart : Table
+tableStart = record { h = 0; n = 0; rq = λ g. 0; opened = λ g. true; next = 1; condition = λ k. Free }
+
+-- a walk over the stations, in order: n of them from station j on; all that are below K
+abbrev pub collect {ℓ} : {A : Type ℓ} → (ℕ → List A) → ℕ → ℕ → List A
+collect f zero j = []
+collect f (suc n) j = f j ++ collect f n (suc j)
+
+abbrev pub gather {ℓ} : {A : Type ℓ} → (ℕ → List A) → ℕ → List A
+gather f K = collect f K 0
+
+-- the station asked in minislot j of group g, and the row that the wire holds of the group: n minislots from j
+abbrev pub askedSender : ℕ → ℕ → ℕ → Condition → List Sender
+askedSender g j k Free = []
+askedSender g j k (Fresh t) = []
+askedSender g j k (Asked h i t) = onlyIf (eqb h g) (onlyIf (eqb i j) (senderAt k t ∷ []))
+askedSender g j k (Resolving h i t) = []
+askedSender g j k (Urgent i) = []
+askedSender g j k (Long f l t) = []
+
+abbrev pub askedRow : (ℕ → ℕ) → ℕ → (ℕ → Condition) → ℕ → ℕ → ℕ → List Feedback
+askedRow ix K condition g zero j = []
+askedRow ix K condition g (suc n) j = hearing ix (gather (λ k. askedSender g j k (condition k)) K) ∷ askedRow ix K condition g n (suc j)
+
+abbrev pub senderIf : ℕ → ℕ → List Sender
+senderIf k zero = []
+senderIf k (suc s) = senderAt k (suc s) ∷ []
+
+abbrev pub tableRefuse : Table → ℕ → TableResult
+tableRefuse t n = record { state = t; answer = Refused n }
+
+abbrev pub tableAccept : Table → ℕ → ℕ → TableResult
+tableAccept t k s =
+    record {
+      state = record { h = t .h; n = t .n; rq = t .rq; opened = t .opened; next = t .next; condition = λ i. cond (eqb i k) (Fresh s) (t .condition i) };
+      answer = Taken s;
+    }
+
+abbrev pub tableOffer : Table → ℕ → Option ℕ → TableResult
+tableOffer t bytes none = tableRefuse t 16
+tableOffer t bytes (some k) =
+    cond (isFree (t .condition k)) (cond (fitsMessage bytes) (tableAccept t k (slotsFor bytes)) (tableRefuse t 10)) (tableRefuse t 9)
+
+-- the row, the immediate success, and the lengths before and after step 1
+abbrev pub tableRow : Start → Table → List Feedback
+tableRow S t = askedRow (index S) (length (S .indexes)) (t .condition) (t .next) (S .m) 1
+
+abbrev pub tablePlaces : Table → Places
+tablePlaces t = record { urgent = t .h; long = t .n; resolution = t .rq (t .next) }
+
+abbrev pub tableSuccess : Table → List Feedback → Bool
+tableSuccess t heard = immediate (t .opened (t .next)) (weight heard)
+
+-- one slot, from the row heard, step 1's success and its lengths
+abbrev pub tableCondition : (ℕ → ℕ) → Table → List Feedback → Bool → Places → ℕ → Condition
+tableCondition pick t heard b c k =
+    falls (c .urgent) (c .long) (asks (c .resolution) (t .next) (pick k) (settle b (t .next) heard (tablePlaces t) (t .condition k)))
+
+abbrev pub tableWent : Start → (ℕ → ℕ) → Table → List Feedback → Bool → Places → Table
+tableWent S pick t heard b c =
+    record {
+      h = less (c .urgent);
+      n = nLeft (c .urgent) (c .long);
+      rq = λ g. cond (eqb g (t .next)) (less (c .resolution)) (t .rq g);
+      opened = λ g. cond (eqb g (t .next)) (isOpen (turnOf c)) (t .opened g);
+      next = following (S .n) (t .next);
+      condition = tableCondition pick t heard b c;
+    }
+
+abbrev pub tableSends : Table → List Feedback → Bool → Places → ℕ → ℕ
+tableSends t heard b c k = sendsBy (c .urgent) (c .long) (c .resolution) (settle b (t .next) heard (tablePlaces t) (t .condition k))
+
+abbrev pub tableAnswer : Start → Table → List Feedback → Bool → Places → Answer
+tableAnswer S t heard b c =
+    let x = gather (λ k. senderIf k (tableSends t heard b c k)) (length (S .indexes)) in
+    Went (turnOf c) (length x) (loneIndexOf (hearing (index S) x)) (loneNumberOf (hearing (index S) x)) (successes b heard + serves (c .urgent) (c .long))
+
+abbrev pub tableSlot : Start → (ℕ → ℕ) → Table → List Feedback → Bool → Places → TableResult
+tableSlot S pick t heard b c = record { state = tableWent S pick t heard b c; answer = tableAnswer S t heard b c }
+
+abbrev pub tableSettled : Start → Table → Places
+tableSettled S t = queuedRow (tableSuccess t (tableRow S t)) (tablePlaces t) (tableRow S t)
+
+abbrev pub tableCall : Start → Table → Call → TableResult
+tableCall S t (Offer x bytes) = tableOffer t bytes (stationFrom 0 (S .indexes) x)
+tableCall S t (Slot picks) =
+    cond (eqb (length picks) (length (S .indexes)))
+    (cond (inRange (S .m) picks)
+    (cond (passes (tableSettled S t)) (tableRefuse t 7) (tableSlot S (λ k. getD picks k 1) t (tableRow S t) (tableSuccess t (tableRow S t)) (tableSettled S t)))
+    (tableRefuse t 11))
+    (tableRefuse t 17)
+
+abbrev pub tableAfter : Start → Table → List Call → Table
+tableAfter S t [] = t
+tableAfter S t (c ∷ l) = tableAfter S (tableCall S t c .state) l
+
+abbrev pub tableAnswers : Start → Table → List Call → List Answer
+tableAnswers S t [] = []
+tableAnswers S t (c ∷ l) = tableCall S t c .answer ∷ tableAnswers S (tableCall S t c .state) l

@@ -1,0 +1,308 @@
+-- One slot that goes through, for the whole table: counters, marks, conditions, and the answer. Assumes nothing.
+use mathlib.Core.Path.{_≡_, refl, sym, ap, subst, _∙_}
+use mathlib.Core.Bool.{Bool, true, false, not, cond, _&&_, _||_}
+use mathlib.Core.List.{List, [], _∷_, _++_, map}
+use Prim.Native.Nat.{ℕ, zero, suc, _+_, _-_, _≤_, _<_}
+use native.Mathlib.Omega.{arith}
+use mathlib.Core.Logic.{_≢_}
+use lib.Dec.{leb, ltb, eqb}
+use lib.ListN.{length, length-append, length-map}
+use Rattle.rules.proofs.Landing.{row-lengths}
+use Rattle.rules.proofs.AskedRows.{row-eq, weight-eq}
+use Rattle.rules.proofs.SettleViews.{settle-fresh}
+use Rattle.rules.proofs.OneStation.{first, later, first-ok, station-ok}
+use Rattle.rules.proofs.DataSenders.{send-ok, senders-read, senders-length}
+use Rattle.minislot.specs.Row.{weight}
+use Rattle.minislot.specs.declared.Feedback.{Feedback}
+use Rattle.rules.proofs.Clauses.{less, read, settle, asks, falls, sendsBy, serves, nLeft, hearing, loneIndexOf, loneNumberOf}
+use Rattle.rules.proofs.Relation.{lengths, Fits, Agrees, Same, Crowded, Shows, freshOf, whole}
+use Rattle.rules.proofs.Shared.{Table, TableResult, askedRow, tableRow, tablePlaces, tableSuccess, tableSettled, tableCondition, tableWent, tableSends, tableAnswer, tableSlot, gather, senderIf}
+use Rattle.rules.proofs.Views.{Sender, eqb-self, dataFrom}
+use Rattle.rules.specs.Calls.{Start, index, Answer, Went}
+use Rattle.rules.specs.ChannelCalls.{successes}
+use Rattle.rules.specs.Falling.{following}
+use Rattle.rules.specs.Messages.{Message, Segment, ofBy, of}
+use Rattle.rules.specs.Plain.{Queues, Group, Plain, PlainResult, joinAlone, joinMinislot, joinRow, queuesOf, plainSuccess, plainSettled, overflows, renewed, plainMark, nextGroup, plainWent, plainLoneIndex, plainLoneSegment, plainAnswer, grown, plainSlot, plainTurn, served, sent, rest, longLeft, askingRow, pickedIn, plainWeight}
+use Rattle.rules.specs.Queueing.{queuedRow, passes}
+use Rattle.rules.specs.StationLimits.{Condition, Free, Fresh, Asked, Resolving, Urgent, Long}
+use Rattle.rules.specs.Turns.{Turn, UrgentTurn, LongTurn, ResolveTurn, OpenTurn, isOpen, turnOf}
+use Rattle.rules.specs.declared.Places.{Places}
+use borrow.Author.Tests.{eqb-true, ne-eqb, eqb-false, lt-ltb, le-ltb, ltb-true, ltb-false, leb-true, leb-false, not-false}
+
+-- lengths of what is left, and the turn
+length-rest {ℓ} : {A : Type ℓ} (l : List A) → less (length l) ≡ length (rest l)
+length-rest [] = refl
+length-rest (x ∷ l) = refl
+
+length-long : (u : List Message) (l : List Segment) → nLeft (length u) (length l) ≡ length (longLeft u l)
+length-long [] l = length-rest l
+length-long (x ∷ u) l = refl
+
+pub turn-eq : (u : List Message) (l : List Segment) (r : List (List Message)) → turnOf (record { urgent = length u; long = length l; resolution = length r }) ≡ plainTurn u l r
+unfolding turnOf
+turn-eq (x ∷ u) l r = rw (lt-ltb 0 (suc (length u)) (omega arith))
+turn-eq [] (x ∷ l) r = rw (lt-ltb 0 (suc (length l)) (omega arith))
+turn-eq [] [] (x ∷ r) = rw (lt-ltb 0 (suc (length r)) (omega arith))
+turn-eq [] [] [] = refl
+
+mark-eq : (x : Turn) → isOpen x ≡ plainMark x
+mark-eq UrgentTurn = refl
+mark-eq LongTurn = refl
+mark-eq ResolveTurn = refl
+mark-eq OpenTurn = refl
+
+length-served : (u : List Message) (l : List Segment) → length (served u l) ≡ serves (length u) (length l)
+length-served (x ∷ u) l = refl
+length-served [] (y ∷ l) = refl
+length-served [] [] = refl
+
+pub length-asking : (pick : ℕ → ℕ) (l : List Message) (n j : ℕ) → length (askingRow pick l n j) ≡ n
+length-asking pick l zero j = refl
+length-asking pick l (suc n) j = ap suc (length-asking pick l n (suc j))
+
+-- the history grows by the immediate successes
+row-out : (b : Bool) (ix : ℕ → ℕ) (l : List (List Message)) (q : Queues) → length (joinRow b l q .history) ≡ length (q .history) + successes b (map (read ix) l)
+row-out b ix [] q = omega arith
+row-out b ix ([] ∷ l) q = row-out b ix l q ∙ omega arith
+row-out b ix ((x ∷ []) ∷ l) q = row-out b ix l (joinAlone b (eqb (x .slots) 1) x q) ∙ go b (eqb (x .slots) 1)
+  where
+    go : (b o : Bool) → length (joinAlone b o x q .history) + successes b (map (read ix) l) ≡ length (q .history) + (cond (b && o) 1 0 + successes b (map (read ix) l))
+    go true true = rw length-append (omega arith)
+    go false true = omega arith
+    go true false = omega arith
+    go false false = omega arith
+row-out b ix ((x ∷ y ∷ z) ∷ l) q = row-out b ix l (joinMinislot b (x ∷ y ∷ z) q) ∙ omega arith
+
+-- crowds stay crowds
+crowd-more : (r : List (List Message)) (x : List Message) → 2 ≤ length x → Crowded r → Crowded (r ++ (x ∷ []))
+crowd-more [] x h c = (h, tt)
+crowd-more (y ∷ r) x h c = (c .0, crowd-more r x h (c .1))
+
+crowd-alone : (b o : Bool) (x : Message) (q : Queues) → Crowded (q .resolution) → Crowded (joinAlone b o x q .resolution)
+crowd-alone true true x q c = c
+crowd-alone false true x q c = c
+crowd-alone b false x q c = c
+
+row-crowd : (b : Bool) (l : List (List Message)) (q : Queues) → Crowded (q .resolution) → Crowded (joinRow b l q .resolution)
+row-crowd b [] q c = c
+row-crowd b ([] ∷ l) q c = row-crowd b l q c
+row-crowd b ((x ∷ []) ∷ l) q c = row-crowd b l (joinAlone b (eqb (x .slots) 1) x q) (crowd-alone b (eqb (x .slots) 1) x q c)
+row-crowd b ((x ∷ y ∷ z) ∷ l) q c = row-crowd b l (joinMinislot b (x ∷ y ∷ z) q) (crowd-more (q .resolution) (x ∷ y ∷ z) (omega arith) c)
+
+rest-crowd : (r : List (List Message)) → Crowded r → Crowded (rest r)
+rest-crowd [] c = tt
+rest-crowd (x ∷ r) c = c .1
+
+asks-free : (r g j : ℕ) → asks r g j Free ≡ Free
+asks-free zero g j = refl
+asks-free (suc r) g j = refl
+
+-- the next group: the same on both sides, and within the groups
+next-eq : (n g : ℕ) → g ≤ n → following n g ≡ nextGroup n g
+next-eq n g h = go (eqb g n) refl (ltb g n) refl
+  where
+    go : (b : Bool) → eqb g n ≡ b → (c : Bool) → ltb g n ≡ c → cond b 1 (g + 1) ≡ cond c (g + 1) 1
+    go true e true f = let w : g ≡ n = eqb-true g n e in let v : g < n = ltb-true g n f in absurd (omega arith)
+    go true e false f = refl
+    go false e true f = refl
+    go false e false f = let w : g ≢ n = eqb-false g n e in let v : n ≤ g = ltb-false g n f in absurd (omega arith)
+
+next-low : (n g : ℕ) → 1 ≤ nextGroup n g
+next-low n g = go (ltb g n)
+  where
+    go : (b : Bool) → 1 ≤ cond b (g + 1) 1
+    go true = omega arith
+    go false = omega arith
+
+next-high : (n g : ℕ) → 1 ≤ g → g ≤ n → nextGroup n g ≤ n
+next-high n g l h = go (ltb g n) refl
+  where
+    go : (b : Bool) → ltb g n ≡ b → cond b (g + 1) 1 ≤ n
+    go true e = let w : g < n = ltb-true g n e in omega arith
+    go false e = omega arith
+
+rest-short {ℓ} : {A : Type ℓ} (l : List A) → length (rest l) ≤ length l
+rest-short [] = omega arith
+rest-short (x ∷ l) = omega arith
+
+left-short : (u : List Message) (l : List Segment) → length (longLeft u l) ≤ length l
+left-short [] l = rest-short l
+left-short (x ∷ u) l = omega arith
+
+pub and-both : (a b : Bool) → (a && b) ≡ true → (a ≡ true) × (b ≡ true)
+and-both true b e = (refl, e)
+and-both false b e = (e, cc)
+
+-- refusal 7 on both sides
+limit-eq : (l x : ℕ) → ltb l x ≡ not (leb x l)
+limit-eq l x = go (leb x l) refl
+  where
+    go : (b : Bool) → leb x l ≡ b → ltb l x ≡ not b
+    go true e = le-ltb l x (leb-true x l e)
+    go false e = lt-ltb l x (leb-false x l e)
+
+not-and : (a b c : Bool) → not a || not b || not c ≡ not (a && b && c)
+not-and true true c = refl
+not-and true false c = refl
+not-and false b c = refl
+
+pub passes-eq : (q : Queues) → passes (lengths q) ≡ overflows q
+unfolding passes
+passes-eq q = limits (length (q .urgent)) (length (q .long)) (length (q .resolution))
+  where
+    limits : (h n r : ℕ) → ltb 4095 h || ltb 65535 n || ltb 4095 r ≡ not (leb h 4095 && leb n 65535 && leb r 4095)
+    limits h n r = rw (limit-eq 4095 h, limit-eq 65535 n, limit-eq 4095 r) (not-and (leb h 4095) (leb n 65535) (leb r 4095))
+
+within-le : (q : Queues) → overflows q ≡ false → (length (q .urgent) ≤ 4095) × (length (q .long) ≤ 65535) × (length (q .resolution) ≤ 4095)
+within-le q e =
+    let (ab, r) = and-both (leb (length (q .urgent)) 4095 && leb (length (q .long)) 65535) (leb (length (q .resolution)) 4095) (not-false _ e) in
+    let (h, n) = and-both (leb (length (q .urgent)) 4095) (leb (length (q .long)) 65535) ab in
+    (leb-true (length (q .urgent)) 4095 h, leb-true (length (q .long)) 65535 n, leb-true (length (q .resolution)) 4095 r)
+
+-- a lone sender's index and segment, as the senders are read
+lone-index : (S : Start) (l : List Segment) → plainLoneIndex S l ≡ loneIndexOf (hearing (index S) (map dataFrom l))
+lone-index S [] = refl
+lone-index S (s ∷ []) = refl
+lone-index S (s ∷ t ∷ l) = refl
+
+lone-segment : (S : Start) (l : List Segment) → plainLoneSegment l ≡ loneNumberOf (hearing (index S) (map dataFrom l))
+lone-segment S [] = refl
+lone-segment S (s ∷ []) = refl
+lone-segment S (s ∷ t ∷ l) = refl
+
+-- the data senders of the plain channel; the segment that station k sends
+abbrev pub segmentsSent : Plain → List Segment
+segmentsSent p = sent (plainSettled p .urgent) (plainSettled p .long) (plainSettled p .resolution) (p .fresh)
+
+abbrev sentBy : Plain → List Sender
+sentBy p = map dataFrom (segmentsSent p)
+
+went-cong : {t t′ : Turn} {n n′ i i′ s s′ d d′ : ℕ} → t ≡ t′ → n ≡ n′ → i ≡ i′ → s ≡ s′ → d ≡ d′ → Went t n i s d ≡ Went t′ n′ i′ s′ d′
+went-cong a b c d e = cc
+
+module _ (S : Start) (p : Plain) (t : Table) (R : Same S p t) where
+  -- what the table hears and counts is what the plain channel has
+  pub heard-eq : tableRow S t ≡ map (read (index S)) (p .group (p .next) .asking)
+  heard-eq = rw (R .next) (rw (← (R .rows (p .next))) (row-eq S p (t .condition) (R .message) (R .outside) (R .agrees) (p .next)))
+
+  counts-eq : tablePlaces t ≡ lengths (queuesOf p (p .group (p .next)))
+  counts-eq = rw (R .next, R .h, R .n, R .rq (p .next))
+
+  success-eq : tableSuccess t (tableRow S t) ≡ plainSuccess (p .group (p .next))
+  success-eq = rw (heard-eq, weight-eq (index S) (p .group (p .next) .asking), R .next, R .opened (p .next))
+
+  pub settled-eq : tableSettled S t ≡ lengths (plainSettled p)
+  settled-eq =
+      ap (λ (b : Bool). queuedRow b (tablePlaces t) (tableRow S t)) success-eq
+      ∙ ap (λ (r : List Feedback). queuedRow (plainSuccess (p .group (p .next))) (tablePlaces t) r) heard-eq
+      ∙ ap (λ (c : Places). queuedRow (plainSuccess (p .group (p .next))) c (map (read (index S)) (p .group (p .next) .asking))) counts-eq
+      ∙ sym (row-lengths (plainSuccess (p .group (p .next))) (index S) (p .group (p .next) .asking) (queuesOf p (p .group (p .next))))
+
+module _ (S : Start) (pick : ℕ → ℕ) (jl : (k : ℕ) → 1 ≤ pick k) (jh : (k : ℕ) → pick k ≤ S .m) (p : Plain) (t : Table) (R : Same S p t) where
+  module _ (heard : List Feedback) (b : Bool) (c : Places) (eh : heard ≡ map (read (index S)) (p .group (p .next) .asking)) (eb : b ≡ plainSuccess (p .group (p .next))) (ec : c ≡ lengths (plainSettled p)) where
+    first-eq : (k : ℕ) → settle b (t .next) heard (tablePlaces t) (t .condition k) ≡ first S p (t .condition k)
+    first-eq k =
+        ap (λ (x : Bool). settle x (t .next) heard (tablePlaces t) (t .condition k)) eb
+        ∙ ap (λ (x : List Feedback). settle (plainSuccess (p .group (p .next))) (t .next) x (tablePlaces t) (t .condition k)) eh
+        ∙ ap (λ (x : Places). settle (plainSuccess (p .group (p .next))) (t .next) (map (read (index S)) (p .group (p .next) .asking)) x (t .condition k)) (counts-eq S p t R)
+        ∙ ap (λ (x : ℕ). settle (plainSuccess (p .group (p .next))) x (map (read (index S)) (p .group (p .next) .asking)) (lengths (queuesOf p (p .group (p .next)))) (t .condition k)) (R .next)
+
+    condition-eq : (k : ℕ) → tableCondition pick t heard b c k ≡ later pick p k (plainSettled p) (first S p (t .condition k))
+    condition-eq k = rw (first-eq k, ec, R .next)
+
+    went-same : overflows (plainSettled p) ≡ false → Same S (plainWent S pick p (plainSettled p)) (tableWent S pick t heard b c)
+    went-same inside =
+        record {
+          h = rw ec (length-rest (plainSettled p .urgent));
+          n = rw ec (length-long (plainSettled p .urgent) (plainSettled p .long));
+          rq = λ g. rw (ec, R .next) (go-rq g (eqb g (p .next)));
+          opened = λ g. rw (ec, R .next) (go-open g (eqb g (p .next)));
+          next = rw (R .next) (next-eq (S .n) (p .next) (R .high));
+          low = next-low (S .n) (p .next);
+          high = next-high (S .n) (p .next) (R .low) (R .high);
+          rows = λ g. go-rows g (eqb g (p .next));
+          crowds = λ g. go-crowds g (eqb g (p .next));
+          message = R .message;
+          agrees = λ k. subst (Agrees S (plainWent S pick p (plainSettled p)) k (R .message k)) (sym (condition-eq k)) (station-ok S pick p k (R .message k) R.low R.high (jl k) (jh k) (t .condition k) (R .agrees k));
+          outside = λ k l. condition-eq k ∙ rw (R .outside k l, asks-free (length (plainSettled p .resolution)) (p .next) (pick k));
+          strangers = R .strangers;
+          numbered = R .numbered;
+          idle = λ g l. go-idle g l (eqb g (p .next)) refl;
+          hmax = omega (arith, in-limits .0, rest-short (plainSettled p .urgent));
+          nmax = omega (arith, in-limits .1, left-short (plainSettled p .urgent) (plainSettled p .long));
+          rmax = λ g. go-rmax g (eqb g (p .next));
+        }
+      where
+        go-rq : (g : ℕ) (b : Bool) → cond b (less (length (plainSettled p .resolution))) (t .rq g) ≡ length ((cond b (renewed S pick p (plainSettled p)) (p .group g)) .resolution)
+        go-rq g true = length-rest (plainSettled p .resolution)
+        go-rq g false = R .rq g
+
+        go-open : (g : ℕ) (b : Bool)
+            → cond b (isOpen (turnOf (lengths (plainSettled p)))) (t .opened g) ≡ (cond b (renewed S pick p (plainSettled p)) (p .group g)) .opened
+        go-open g true = ap isOpen (turn-eq (plainSettled p .urgent) (plainSettled p .long) (plainSettled p .resolution)) ∙ mark-eq (plainTurn (plainSettled p .urgent) (plainSettled p .long) (plainSettled p .resolution))
+        go-open g false = R .opened g
+
+        in-limits : (length (plainSettled p .urgent) ≤ 4095) × (length (plainSettled p .long) ≤ 65535) × (length (plainSettled p .resolution) ≤ 4095)
+        in-limits = within-le (plainSettled p) inside
+
+        go-idle : (g : ℕ) → S .n < g → (b : Bool) → eqb g (p .next) ≡ b
+            → ((cond b (renewed S pick p (plainSettled p)) (p .group g)) .resolution ≡ []) × ((cond b (renewed S pick p (plainSettled p)) (p .group g)) .opened ≡ true)
+        go-idle g l true e = let w : g ≡ p .next = eqb-true g (p .next) e in absurd (omega (arith, R .high))
+        go-idle g l false e = R .idle g l
+
+        go-rmax : (g : ℕ) (b : Bool) → length ((cond b (renewed S pick p (plainSettled p)) (p .group g)) .resolution) ≤ 4095
+        go-rmax g true = omega (arith, in-limits .2, rest-short (plainSettled p .resolution))
+        go-rmax g false = R .rmax g
+
+        go-rows : (g : ℕ) (b : Bool) → length ((cond b (renewed S pick p (plainSettled p)) (p .group g)) .asking) ≡ S .m
+        go-rows g true = length-asking pick _ (S .m) 1
+        go-rows g false = R .rows g
+
+        go-crowds : (g : ℕ) (b : Bool) → Crowded ((cond b (renewed S pick p (plainSettled p)) (p .group g)) .resolution)
+        go-crowds g true = rest-crowd (plainSettled p .resolution) (row-crowd (plainSuccess (p .group (p .next))) (p .group (p .next) .asking) (queuesOf p (p .group (p .next))) (R .crowds (p .next)))
+        go-crowds g false = R .crowds g
+
+    -- the answer
+    each : (k : ℕ) → ofBy (λ s. s .position) k (sentBy p) ≡ senderIf k (tableSends t heard b c k)
+    each k =
+        rw (first-eq k, ec)
+        (send-ok S k (R .message k) (plainSettled p .urgent) (plainSettled p .long) (plainSettled p .resolution) (p .fresh) (first S p (t .condition k)) s.fits (s .urgent zero) (s .long zero)
+        (R .agrees k .fresh
+        ∙ sym (settle-fresh (plainSuccess (p .group (p .next))) (p .next) (map (read (index S)) (p .group (p .next) .asking)) (lengths (queuesOf p (p .group (p .next)))) (R .message k) (t .condition k))))
+      where
+        s : Shows S (p .next) k (R .message k) (whole (of k (p .taken))) (plainSettled p) (first S p (t .condition k))
+        s = first-ok S pick p k (R .message k) R.low R.high (jl k) (jh k) (t .condition k) (R .agrees k)
+
+    silent : (k : ℕ) → length (S .indexes) ≤ k → tableSends t heard b c k ≡ 0
+    silent k l = rw (R .outside k l)
+
+    answer-senders : length (segmentsSent p) ≡ length (gather (λ k. senderIf k (tableSends t heard b c k)) (length (S .indexes)))
+    answer-senders = sym (length-map (segmentsSent p) dataFrom) ∙ senders-length (length (S .indexes)) (sentBy p) (tableSends t heard b c) silent each
+
+    delivered-eq : grown (p .history) (plainSettled p .history ++ served (plainSettled p .urgent) (plainSettled p .long)) ≡ successes b heard + serves (c .urgent) (c .long)
+    delivered-eq =
+        rw (eb, eh, ec)
+        (omega (arith, length-append (plainSettled p .history) (served (plainSettled p .urgent) (plainSettled p .long)), row-out (plainSuccess (p .group (p .next))) (index S) (p .group (p .next) .asking) (queuesOf p (p .group (p .next))), length-served (plainSettled p .urgent) (plainSettled p .long)))
+
+    answer-same : plainAnswer S p (plainWent S pick p (plainSettled p)) (plainSettled p) ≡ tableAnswer S t heard b c
+    answer-same =
+        went-cong (rw ec (sym (turn-eq (plainSettled p .urgent) (plainSettled p .long) (plainSettled p .resolution)))) answer-senders
+        (lone-index S (segmentsSent p) ∙ ap loneIndexOf (senders-read (length (S .indexes)) (sentBy p) (tableSends t heard b c) silent each (index S)))
+        (lone-segment S (segmentsSent p) ∙ ap loneNumberOf (senders-read (length (S .indexes)) (sentBy p) (tableSends t heard b c) silent each (index S)))
+        delivered-eq
+
+  pub slot-same : overflows (plainSettled p) ≡ false → Same S (plainWent S pick p (plainSettled p)) (tableWent S pick t (tableRow S t) (tableSuccess t (tableRow S t)) (tableSettled S t))
+  slot-same = went-same (tableRow S t) (tableSuccess t (tableRow S t)) (tableSettled S t) (heard-eq S p t R) (success-eq S p t R) (settled-eq S p t R)
+
+  pub slot-answer : plainAnswer S p (plainWent S pick p (plainSettled p)) (plainSettled p) ≡ tableAnswer S t (tableRow S t) (tableSuccess t (tableRow S t)) (tableSettled S t)
+  slot-answer = answer-same (tableRow S t) (tableSuccess t (tableRow S t)) (tableSettled S t) (heard-eq S p t R) (success-eq S p t R) (settled-eq S p t R)
+
+  -- a station's condition after step 1 is its message's
+  pub settled-fits : (k : ℕ) → Fits S (R .message k) (settle (tableSuccess t (tableRow S t)) (t .next) (tableRow S t) (tablePlaces t) (t .condition k))
+  settled-fits k =
+      subst (Fits S (R .message k)) (sym (first-eq (tableRow S t) (tableSuccess t (tableRow S t)) (tableSettled S t) (heard-eq S p t R) (success-eq S p t R) (settled-eq S p t R) k))
+      (first-ok S pick p k (R .message k) R.low R.high (jl k) (jh k) (t .condition k) (R .agrees k) .fits)
+
+  -- as many stations send data as the plain channel sends segments
+  pub senders-eq : length (segmentsSent p) ≡ length (gather (λ k. senderIf k (tableSends t (tableRow S t) (tableSuccess t (tableRow S t)) (tableSettled S t) k)) (length (S .indexes)))
+  senders-eq = answer-senders (tableRow S t) (tableSuccess t (tableRow S t)) (tableSettled S t) (heard-eq S p t R) (success-eq S p t R) (settled-eq S p t R)

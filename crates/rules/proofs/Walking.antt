@@ -1,0 +1,131 @@
+-- A station's record beside the shared table: its slot, from its own counters alone, makes it the record of the table's next state, and sends what the
+-- table says. Assumes nothing.
+use mathlib.Core.Path.{_≡_, refl, sym, ap, subst, _∙_}
+use mathlib.Core.Bool.{Bool, true, false, cond, _&&_}
+use mathlib.Core.List.{List, [], _∷_, map}
+use mathlib.Core.Logic.{_≢_}
+use Prim.Native.Nat.{ℕ, zero, suc, _+_, _-_, _≤_, _<_}
+use native.Mathlib.Omega.{arith}
+use lib.Dec.{eqb, leb}
+use lib.ListN.{length, getD, set, length-set}
+use lib.Seq.{getD-set-same, getD-set-other}
+use borrow.Author.Tests.{eqb-true, eqb-false, ne-eqb, le-leb}
+use Rattle.minislot.specs.declared.Feedback.{Feedback}
+use Rattle.minislot.specs.Row.{readings, firstNumber, feedbacks, weight}
+use Rattle.rules.specs.declared.Counters.{Counters}
+use Rattle.rules.specs.declared.Station.{Station}
+use Rattle.rules.specs.declared.StationSlot.{StationSlot}
+use Rattle.rules.specs.declared.SlotAnswer.the-variants.{Went as WentSlot}
+use Rattle.rules.specs.declared.Places.{Places}
+use Rattle.rules.specs.Limits.{between}
+use Rattle.rules.specs.Queueing.{queuedRow, immediate, placesOf, immediateOf, placesAfter, passes}
+use Rattle.rules.specs.Turns.{turnOf, isOpen}
+use Rattle.rules.specs.Falling.{fallen, following}
+use Rattle.rules.specs.Listening.{hasRow}
+use Rattle.rules.specs.StationLimits.{Condition, stationWithin}
+use Rattle.rules.specs.Settling.{settledOf}
+use Rattle.rules.specs.OwnHearing.{hearsItself}
+use Rattle.rules.specs.Requesting.{requested}
+use Rattle.rules.specs.Serving.{moved}
+use Rattle.rules.specs.StationCalls.{requestMinislot, requesting, segmentSent, conditionAfter, stationAfter, heardSlotOf, slotOf}
+use Rattle.rules.specs.Calls.{Start, index}
+use Rattle.rules.proofs.Clauses.{settle, asks, less}
+use Rattle.rules.proofs.ClauseLaws.{Placed, settle-is, asks-is, falls-is, sends-is, less-is, urgent-falls-is, long-falls-is}
+use Rattle.rules.proofs.Shared.{Table, tablePlaces, tableSuccess, tableCondition, tableWent, tableSends}
+
+-- an array by groups, counted from 1
+pub get-set {ℓ} : {A : Type ℓ} (l : List A) (g h : ℕ) (v d : A) → 1 ≤ g → 1 ≤ h → g - 1 < length l → getD (set l (g - 1) v) (h - 1) d ≡ cond (eqb h g) v (getD l (h - 1) d)
+get-set l g h v d gl hl i = go (eqb h g) refl
+  where
+    go : (b : Bool) → eqb h g ≡ b → getD (set l (g - 1) v) (h - 1) d ≡ cond b v (getD l (h - 1) d)
+    go true e = rw (eqb-true h g e) (getD-set-same l (g - 1) v d i)
+    go false e = let w : h ≢ g = eqb-false h g e in getD-set-other l (g - 1) (h - 1) v d (λ x. w (omega arith))
+
+-- a record is station k of the table t
+pub record IsStation (S : Start) (t : Table) (k : ℕ) (s : Station) : Type 0 where
+  pub index : s .index ≡ index S k
+  pub minislots : s .counters .minislots ≡ S .m
+  pub groups : s .counters .groups ≡ S .n
+  pub next : s .counters .next ≡ t .next
+  pub urgent : s .counters .urgent ≡ t .h
+  pub long : s .counters .long ≡ t .n
+  pub arrays : (length (s .counters .resolution) ≡ 8) × (length (s .counters .opened) ≡ 8)
+  pub resolution : (g : ℕ) → 1 ≤ g → g ≤ 8 → getD (s .counters .resolution) (g - 1) 0 ≡ t .rq g
+  pub mark : (g : ℕ) → 1 ≤ g → g ≤ 8 → getD (s .counters .opened) (g - 1) false ≡ t .opened g
+  pub condition : s .condition ≡ t .condition k
+
+-- the list from station j on
+abbrev pub AreStations : Start → Table → ℕ → List Station → Type 0
+AreStations S t j [] = Unit {0}
+AreStations S t j (s ∷ l) = IsStation S t j s × AreStations S t (suc j) l
+
+-- the lengths after step 1
+abbrev pub tableQueued : Table → List Feedback → Places
+tableQueued t heard = queuedRow (tableSuccess t heard) (tablePlaces t) heard
+
+abbrev pub tableSettledBy : Table → List Feedback → ℕ → Condition
+tableSettledBy t heard k = settle (tableSuccess t heard) (t .next) heard (tablePlaces t) (t .condition k)
+
+module _ (S : Start) (t : Table) (gl : 1 ≤ t .next) (gh : t .next ≤ 8) (heard : List Feedback) (k : ℕ) (s : Station) (a : IsStation S t k s) where
+  pub places-is : placesOf (s .counters) ≡ tablePlaces t
+  places-is = rw (a .next, a .urgent, a .long, a .resolution (t .next) gl gh)
+
+  pub success-is : immediateOf (s .counters) heard ≡ tableSuccess t heard
+  unfolding immediateOf
+  success-is =
+      ap (λ (b : Bool). immediate b (weight heard)) (ap (λ (g : ℕ). getD (s .counters .opened) (g - 1) false) (a .next) ∙ a .mark (t .next) gl gh)
+
+  pub queued-is : placesAfter (s .counters) heard ≡ tableQueued t heard
+  unfolding placesAfter
+  queued-is = rw (success-is, places-is)
+
+  module _ (w₀ : Placed (t .condition k)) where
+    pub settled-is : settledOf (s .counters) heard (s .condition) ≡ tableSettledBy t heard k
+    settled-is = rw (success-is, places-is, a .next, a .condition) (settle-is (tableSuccess t heard) (t .next) (tablePlaces t) heard (t .condition k) w₀)
+
+    pub sent-is : segmentSent s heard ≡ tableSends t heard (tableSuccess t heard) (tableQueued t heard) k
+    sent-is =
+        rw (queued-is, settled-is, a .next)
+        (sends-is (t .next) (tableQueued t heard .urgent) (tableQueued t heard .long) (tableQueued t heard .resolution) (tableSettledBy t heard k))
+
+    module _ (pick : ℕ → ℕ) (w₁ : Placed (tableSettledBy t heard k)) (w₂ : Placed (asks (tableQueued t heard .resolution) (t .next) (pick k) (tableSettledBy t heard k))) where
+      condition-is : conditionAfter s heard (pick k) ≡ tableCondition pick t heard (tableSuccess t heard) (tableQueued t heard) k
+      condition-is =
+          rw (queued-is, settled-is, a .next)
+          (ap (moved (turnOf (tableQueued t heard))) (asks-is (tableQueued t heard .resolution) (t .next) (pick k) (tableSettledBy t heard k) w₁)
+          ∙ falls-is (tableQueued t heard .urgent) (tableQueued t heard .long) (tableQueued t heard .resolution)
+          (asks (tableQueued t heard .resolution) (t .next) (pick k) (tableSettledBy t heard k)) w₂)
+
+      pub station-is : IsStation S (tableWent S pick t heard (tableSuccess t heard) (tableQueued t heard)) k (stationAfter s heard (pick k))
+      unfolding stationAfter fallen
+      station-is =
+          record {
+            index = a .index;
+            minislots = a .minislots;
+            groups = a .groups;
+            next = rw (a .groups, a .next);
+            urgent = rw queued-is (urgent-falls-is (tableQueued t heard .urgent) (tableQueued t heard .long) (tableQueued t heard .resolution));
+            long = rw queued-is (long-falls-is (tableQueued t heard .urgent) (tableQueued t heard .long) (tableQueued t heard .resolution));
+            arrays = (length-set (s .counters .resolution) (s .counters .next - 1) _ ∙ a .arrays .0, length-set (s .counters .opened) (s .counters .next - 1) _ ∙ a .arrays .1);
+            resolution = λ g l h.
+                rw (queued-is, a .next, less-is (tableQueued t heard .resolution))
+                (get-set (s .counters .resolution) (t .next) g (less-of) 0 gl l (omega (arith, a .arrays .0)) ∙ ap (cond (eqb g (t .next)) less-of) (a .resolution g l h));
+            mark = λ g l h.
+                rw (queued-is, a .next)
+                (get-set (s .counters .opened) (t .next) g (mark-of) false gl l (omega (arith, a .arrays .1)) ∙ ap (cond (eqb g (t .next)) mark-of) (a .mark g l h));
+            condition = condition-is;
+          }
+        where
+          less-of : ℕ
+          less-of = less (tableQueued t heard .resolution)
+
+          mark-of : Bool
+          mark-of = isOpen (turnOf (tableQueued t heard))
+
+-- a station's slot whose tests all pass
+pub slot-passes : (s : Station) (words counts : List ℕ) (row : List Feedback) (pick : ℕ) → stationWithin s ≡ true → hasRow (s .counters .minislots) words counts ≡ true
+    → between 1 pick (s .counters .minislots) ≡ true → firstNumber (readings words counts) ≡ 0 → feedbacks (readings words counts) ≡ row → passes (placesAfter (s .counters) row) ≡ false
+    → hearsItself s words row ≡ true
+    → slotOf s words counts pick ≡ record { answer = WentSlot (turnOf (placesAfter (s .counters) row)) (requestMinislot (requesting s row) pick) (segmentSent s row); station = stationAfter s row pick }
+unfolding slotOf heardSlotOf
+slot-passes s words counts row pick e18 e6 e11 e1 ef e7 e12 = rw (e18, e6, e11, e1, ef, e7, e12)

@@ -1,0 +1,129 @@
+-- DEMAND 3 (paper 01, "Demand 3's list" and "The channel"): one claim over every list of calls on one channel from a start that goes through, refused calls
+-- included, any arguments at all. Each field is a sentence of the paper. `ch` is the channel after the list, `p` the plain channel after it.
+-- Assumes nothing.
+use mathlib.Core.Path.{_≡_}
+use mathlib.Core.Bool.{Bool, true, false}
+use mathlib.Core.List.{List, [], _∷_, map}
+use Prim.Native.Nat.{ℕ, zero, suc, _+_, _-_, _≤_, _<_}
+use lib.Dec.{eqb}
+use lib.ListN.{length, getD}
+use Rattle.minislot.specs.Together.{Request, carries, silent, together}
+use Rattle.minislot.specs.Row.{readings, feedbacks}
+use Rattle.rules.specs.declared.Places.{Places}
+use Rattle.rules.specs.declared.Station.{Station}
+use Rattle.rules.specs.declared.StartAnswer.the-variants.{Ready}
+use Rattle.rules.specs.Lists.{sumOf, countOf}
+use Rattle.rules.specs.Hearing.{wordsOf, countsOf}
+use Rattle.rules.specs.Queueing.{placesAfter}
+use Rattle.rules.specs.Turns.{Turn}
+use Rattle.rules.specs.StationLimits.{Condition, Long}
+use Rattle.rules.specs.Serving.{waiting}
+use Rattle.rules.specs.Soundness.{tableCounters}
+use Rattle.rules.specs.SoundMeaning.{stationAt, Sound}
+use Rattle.rules.specs.ChannelCalls.{Channel, ChannelStarted, blankRow, channelStartOf, heardRow, channelCall, channelAfter, channelAnswers}
+use Rattle.rules.specs.Calls.{Start, index, Call, Offer, Slot, Answer, Refused, Taken, Went}
+use Rattle.rules.specs.Messages.{Message, Segment, segmentsFrom, deliveredFor}
+use Rattle.rules.specs.Plain.{Plain, plainStart, plainAfter, plainAnswers, slotSum}
+use Rattle.rules.specs.Positions.{conditionOf}
+
+-- ---- the words of the statement
+
+-- a message's request: its station's index and its whole slot count
+abbrev pub requestOf : Start → Message → Request
+requestOf S m = record { index = index S (m .station); total = m .slots }
+
+-- the messages that the plain channel has asking in minislot j of group g
+abbrev pub askingAt : Plain → ℕ → ℕ → List Message
+askingAt p g j = getD (p .group g .asking) (j - 1) []
+
+-- what stands at place i of the long queue, and the i-th message taken, from 0
+abbrev pub noMessage : Message
+noMessage = record { serial = 0; station = 0; slots = 0 }
+
+abbrev pub longAt : Plain → ℕ → Segment
+longAt p i = getD (p .long) (i - 1) (record { message = noMessage; number = 0 })
+
+abbrev pub takenAt : Plain → ℕ → Message
+takenAt p i = getD (p .taken) i noMessage
+
+-- refused with number n
+abbrev pub isRefusal : ℕ → Answer → Bool
+isRefusal n (Refused x) = eqb x n
+isRefusal n (Taken t) = false
+isRefusal n (Went turn senders index segment delivered) = false
+
+-- the lengths of the queues once a slot's row is counted
+abbrev pub countedPlaces : Channel → Places
+countedPlaces ch = placesAfter (tableCounters (ch .stations)) (feedbacks (readings (wordsOf (heardRow ch)) (countsOf (heardRow ch))))
+
+-- outside open access exactly one sender if either transmission queue holds a place, and none otherwise
+pub record SendersAre (c : Places) (senders : ℕ) : Type 0 where
+  pub urgent : 0 < c .urgent → senders ≡ 1
+  pub long : 0 < c .long → senders ≡ 1
+  pub resolve : c .urgent ≡ 0 → c .long ≡ 0 → 0 < c .resolution → senders ≡ 0
+
+-- of each slot in a list that went through
+abbrev pub SenderRule : Channel → List Call → Type 0
+SenderRule ch [] = Unit {0}
+SenderRule ch (Offer x bytes ∷ l) = SenderRule (channelCall ch (Offer x bytes) .state) l
+SenderRule ch (Slot picks ∷ l) =
+    ((turn : Turn) (senders i s d : ℕ) → channelCall ch (Slot picks) .answer ≡ Went turn senders i s d → SendersAre (countedPlaces ch) senders) × SenderRule (channelCall ch (Slot picks) .state) l
+
+-- a station's counters are the lengths of the plain queues, its Open marks and next group the plain ones
+pub record CountersShow (S : Start) (p : Plain) (s : Station) : Type 0 where
+  pub minislots : s .counters .minislots ≡ S .m
+  pub groups : s .counters .groups ≡ S .n
+  pub next : s .counters .next ≡ p .next
+  pub urgent : s .counters .urgent ≡ length (p .urgent)
+  pub long : s .counters .long ≡ length (p .long)
+  pub resolution : (g : ℕ) → 1 ≤ g → g ≤ 8 → getD (s .counters .resolution) (g - 1) 0 ≡ length (p .group g .resolution)
+  pub opened : (g : ℕ) → 1 ≤ g → g ≤ 8 → getD (s .counters .opened) (g - 1) false ≡ p .group g .opened
+
+-- of a message taken: the slots delivered are its first ones, each once and in order, and the rest wait in its station
+pub record MessageShows (p : Plain) (ch : Channel) (m : Message) : Type 0 where
+  pub delivered : ℕ
+  pub most : delivered ≤ m .slots
+  pub order : deliveredFor (m .serial) (p .history) ≡ segmentsFrom m delivered 1
+  pub rest : delivered < m .slots → waiting (stationAt (ch .stations) (m .station) .condition) ≡ m .slots - delivered
+
+-- ---- THE CLAIM
+
+pub record Demand3 (S : Start) (begun : Channel) (calls : List Call) : Type 0 where
+  -- the table has the start's stations: station k has its k-th index
+  pub stations : length (channelAfter begun calls .stations) ≡ length (S .indexes)
+  pub indexes : (k : ℕ) → k < length (S .indexes) → stationAt (channelAfter begun calls .stations) k .index ≡ index S k
+  -- each station's counters are the lengths of the plain queues, its Open marks and next group the plain ones
+  pub counters : (k : ℕ) → k < length (S .indexes) → CountersShow S (plainAfter S (plainStart S) calls) (stationAt (channelAfter begun calls .stations) k)
+  -- so all stations have equal counters
+  pub equal : (i k : ℕ) → i < length (S .indexes) → k < length (S .indexes) → stationAt (channelAfter begun calls .stations) i .counters ≡ stationAt (channelAfter begun calls .stations) k .counters
+  -- each station's condition is its message's: fresh, asked, or its position in its queue; free if none waits
+  pub condition : (k : ℕ) → k < length (S .indexes) → stationAt (channelAfter begun calls .stations) k .condition ≡ conditionOf S (plainAfter S (plainStart S) calls) k
+  -- a stretch: its segments there, one by one
+  pub stretch : (k f l t i : ℕ) → k < length (S .indexes) → stationAt (channelAfter begun calls .stations) k .condition ≡ Long f l t → i < l
+      → (longAt (plainAfter S (plainStart S) calls) (f + i) .message .station ≡ k) × (longAt (plainAfter S (plainStart S) calls) (f + i) .number ≡ t - l + 1 + i)
+  -- each wire minislot is the OR over the messages asking there
+  pub wire : (g j : ℕ) → 1 ≤ g → g ≤ 8 → 1 ≤ j → j ≤ 8
+      → getD (getD (channelAfter begun calls .wire) (g - 1) blankRow .minislots) (j - 1) silent ≡ together (map carries (map (requestOf S) (askingAt (plainAfter S (plainStart S) calls) g j)))
+  -- each answer is the plain channel's
+  pub answers : channelAnswers begun calls ≡ plainAnswers S (plainStart S) calls
+  -- 14 and 18 never come, nor does 12
+  pub never14 : countOf (isRefusal 14) (channelAnswers begun calls) ≡ 0
+  pub never18 : countOf (isRefusal 18) (channelAnswers begun calls) ≡ 0
+  pub never12 : countOf (isRefusal 12) (channelAnswers begun calls) ≡ 0
+  -- every urgent place has one station; the long queue is divided without gap or overlap; every place in a resolution queue has two stations or more
+  pub sound : Sound (channelAfter begun calls .stations) (channelAfter begun calls .wire)
+  -- of each slot that went through: outside open access exactly one sender if either transmission queue holds a place once its row is counted, else none
+  pub senders : SenderRule begun calls
+  -- every message taken is told apart from every other
+  pub apart : (i : ℕ) → i < length (plainAfter S (plainStart S) calls .taken) → takenAt (plainAfter S (plainStart S) calls) i .serial ≡ i
+  -- of each message taken: its first slots delivered, each once and in order, the rest wait in its station
+  pub messages : (i : ℕ) → i < length (plainAfter S (plainStart S) calls .taken)
+      → MessageShows (plainAfter S (plainStart S) calls) (channelAfter begun calls) (takenAt (plainAfter S (plainStart S) calls) i)
+  -- in total taken = delivered + waiting: delivered counted from the history, waiting from the stations' conditions
+  pub ledger : slotSum (plainAfter S (plainStart S) calls .taken)
+      ≡ length (plainAfter S (plainStart S) calls .history) + sumOf (λ (s : Station). waiting (s .condition)) (channelAfter begun calls .stations)
+
+-- for every channel before, every start that goes through, every list of calls
+abbrev pub Demand3Holds : Type 0
+Demand3Holds = (before : Channel) (m n : ℕ) (indexes : List ℕ) → channelStartOf before m n indexes .answer ≡ Ready → (calls : List Call)
+    → Demand3 (record { m = m; n = n; indexes = indexes }) (channelStartOf before m n indexes .state) calls

@@ -1,0 +1,266 @@
+-- THE PLAIN CHANNEL (paper 01, "The plain channel"): queues of messages and of segments, fed the start's m, n and indexes and each call's arguments, nothing
+-- from table or wire. Assumes nothing.
+use mathlib.Core.Bool.{Bool, true, false, not, _&&_, _||_, cond}
+use mathlib.Core.List.{List, [], _∷_, _++_, map}
+use mathlib.Core.Option.{Option, none, some}
+use Prim.Native.Nat.{ℕ, zero, suc, _+_, _-_}
+use lib.Dec.{leb, ltb, eqb}
+use lib.ListN.{length, getD}
+use Rattle.message.specs.Message.{fitsMessage, slotsFor}
+use Rattle.rules.specs.Lists.{keepIf}
+use Rattle.rules.specs.Messages.{Message, Segment, segment, segmentsFrom, of, deliveredOf}
+use Rattle.rules.specs.Turns.{Turn, UrgentTurn, LongTurn, ResolveTurn, OpenTurn}
+use Rattle.rules.specs.Calls.{Start, index, Answer, Refused, Taken, Went, Call, Offer, Slot}
+
+-- ---- what it keeps
+
+-- for each group its Open mark, the messages asking in each minislot, and a resolution queue whose places are sets of messages
+pub record Group : Type 0 where
+  pub opened : Bool
+  pub asking : List (List Message)
+  pub resolution : List (List Message)
+
+-- fresh messages, an urgent queue of messages, a long queue of segments, the next group, the groups; all messages taken; the history of deliveries
+pub record Plain : Type 0 where
+  pub fresh : List Message
+  pub urgent : List Message
+  pub long : List Segment
+  pub next : ℕ
+  pub group : ℕ → Group
+  pub taken : List Message
+  pub history : List Segment
+
+pub record PlainResult : Type 0 where
+  pub state : Plain
+  pub answer : Answer
+
+-- ---- a slot, step 1: the group's minislots are emptied, 1 to m
+
+-- the queues that a slot of one group works on, and the deliveries so far
+pub record Queues : Type 0 where
+  pub urgent : List Message
+  pub long : List Segment
+  pub resolution : List (List Message)
+  pub history : List Segment
+
+-- in step 1's test a lone message is a Single, more are a Collide
+abbrev pub plainWeight : List (List Message) → ℕ
+plainWeight [] = 0
+plainWeight ([] ∷ row) = plainWeight row
+plainWeight ((m ∷ []) ∷ row) = 1 + plainWeight row
+plainWeight ((m ∷ n ∷ l) ∷ row) = 2 + plainWeight row
+
+abbrev pub plainSuccess : Group → Bool
+plainSuccess G = G .opened && eqb (plainWeight (G .asking)) 1
+
+-- a lone message: whether success is immediate, whether it has one slot. One slot: delivered on immediate success, else it joins the urgent queue;
+-- a longer one's segments join the long queue in order
+abbrev pub joinAlone : Bool → Bool → Message → Queues → Queues
+joinAlone true true m q = record { urgent = q .urgent; long = q .long; resolution = q .resolution; history = q .history ++ (segment m 1 ∷ []) }
+joinAlone false true m q = record { urgent = q .urgent ++ (m ∷ []); long = q .long; resolution = q .resolution; history = q .history }
+joinAlone b false m q = record { urgent = q .urgent; long = q .long ++ segmentsFrom m (m .slots) 1; resolution = q .resolution; history = q .history }
+
+-- one minislot: a Collide's messages join the resolution queue as one place
+abbrev pub joinMinislot : Bool → List Message → Queues → Queues
+joinMinislot b [] q = q
+joinMinislot b (m ∷ []) q = joinAlone b (eqb (m .slots) 1) m q
+joinMinislot b (m ∷ n ∷ l) q = record { urgent = q .urgent; long = q .long; resolution = q .resolution ++ ((m ∷ n ∷ l) ∷ []); history = q .history }
+
+abbrev pub joinRow : Bool → List (List Message) → Queues → Queues
+joinRow b [] q = q
+joinRow b (l ∷ row) q = joinRow b row (joinMinislot b l q)
+
+abbrev pub queuesOf : Plain → Group → Queues
+queuesOf p G = record { urgent = p .urgent; long = p .long; resolution = G .resolution; history = p .history }
+
+-- the queues after step 1 of the next group's slot
+abbrev pub plainSettled : Plain → Queues
+plainSettled p = joinRow (plainSuccess (p .group (p .next))) (p .group (p .next) .asking) (queuesOf p (p .group (p .next)))
+
+-- refusal 7: a length would pass its limit in step 1
+abbrev pub overflows : Queues → Bool
+overflows q = not (leb (length (q .urgent)) 4095 && leb (length (q .long)) 65535 && leb (length (q .resolution)) 4095)
+
+-- ---- steps 2 to 5
+
+-- turn and mark are step 2's, lengths being counters
+abbrev pub plainTurn : List Message → List Segment → List (List Message) → Turn
+plainTurn (m ∷ u) l r = UrgentTurn
+plainTurn [] (s ∷ l) r = LongTurn
+plainTurn [] [] (x ∷ r) = ResolveTurn
+plainTurn [] [] [] = OpenTurn
+
+abbrev pub plainMark : Turn → Bool
+plainMark UrgentTurn = false
+plainMark LongTurn = false
+plainMark ResolveTurn = false
+plainMark OpenTurn = true
+
+-- the first place of the resolution queue leaves and asks, or, if there is none, all fresh messages ask
+abbrev pub askers : List (List Message) → List Message → List Message
+askers [] fresh = fresh
+askers (x ∷ r) fresh = x
+
+abbrev pub staysFresh : List (List Message) → List Message → List Message
+staysFresh [] fresh = []
+staysFresh (x ∷ r) fresh = fresh
+
+-- all but the first entry
+abbrev pub rest {ℓ} : {A : Type ℓ} → List A → List A
+rest [] = []
+rest (x ∷ r) = r
+
+-- each in its station's pick: the messages asking in minislot j, and minislots j, j + 1, .., n of them
+abbrev pub pickedIn : (ℕ → ℕ) → ℕ → List Message → List Message
+pickedIn pick j [] = []
+pickedIn pick j (m ∷ l) = keepIf (eqb (pick (m .station)) j) m (pickedIn pick j l)
+
+abbrev pub askingRow : (ℕ → ℕ) → List Message → ℕ → ℕ → List (List Message)
+askingRow pick l zero j = []
+askingRow pick l (suc n) j = pickedIn pick j l ∷ askingRow pick l n (suc j)
+
+-- urgent or long: the first entry leaves, is sent and delivered
+abbrev pub longLeft : List Message → List Segment → List Segment
+longLeft [] l = rest l
+longLeft (m ∷ u) l = l
+
+abbrev pub served : List Message → List Segment → List Segment
+served (m ∷ u) l = segment m 1 ∷ []
+served [] (s ∷ l) = s ∷ []
+served [] [] = []
+
+-- open: each one-slot message that began to ask in this slot is sent
+abbrev pub oneSlot : List Message → List Message
+oneSlot [] = []
+oneSlot (m ∷ l) = keepIf (eqb (m .slots) 1) m (oneSlot l)
+
+abbrev pub sent : List Message → List Segment → List (List Message) → List Message → List Segment
+sent (m ∷ u) l r fresh = segment m 1 ∷ []
+sent [] (s ∷ l) r fresh = s ∷ []
+sent [] [] (x ∷ r) fresh = []
+sent [] [] [] fresh = map (λ (m : Message). segment m 1) (oneSlot fresh)
+
+-- the next group follows: 1, 2, .. n, 1, ..
+abbrev pub nextGroup : ℕ → ℕ → ℕ
+nextGroup n g = cond (ltb g n) (g + 1) 1
+
+abbrev pub renewed : Start → (ℕ → ℕ) → Plain → Queues → Group
+renewed S pick p q =
+    record {
+      opened = plainMark (plainTurn (q .urgent) (q .long) (q .resolution));
+      asking = askingRow pick (askers (q .resolution) (p .fresh)) (S .m) 1;
+      resolution = rest (q .resolution);
+    }
+
+abbrev pub plainWent : Start → (ℕ → ℕ) → Plain → Queues → Plain
+plainWent S pick p q =
+    record {
+      fresh = staysFresh (q .resolution) (p .fresh);
+      urgent = rest (q .urgent);
+      long = longLeft (q .urgent) (q .long);
+      next = nextGroup (S .n) (p .next);
+      group = λ g. cond (eqb g (p .next)) (renewed S pick p q) (p .group g);
+      taken = p .taken;
+      history = q .history ++ served (q .urgent) (q .long);
+    }
+
+-- ---- answers
+
+abbrev pub plainRefuse : Plain → ℕ → PlainResult
+plainRefuse p n = record { state = p; answer = Refused n }
+
+-- the index and the segment of a lone sender, 0 and 0 if there isn't just one
+abbrev pub plainLoneIndex : Start → List Segment → ℕ
+plainLoneIndex S [] = 0
+plainLoneIndex S (s ∷ []) = index S (s .message .station)
+plainLoneIndex S (s ∷ t ∷ l) = 0
+
+abbrev pub plainLoneSegment : List Segment → ℕ
+plainLoneSegment [] = 0
+plainLoneSegment (s ∷ []) = s .number
+plainLoneSegment (s ∷ t ∷ l) = 0
+
+-- the slots delivered in a call: the history's growth
+abbrev pub grown : List Segment → List Segment → ℕ
+grown before after = length after - length before
+
+abbrev pub plainAnswer : Start → Plain → Plain → Queues → Answer
+plainAnswer S p p′ q =
+    let x = sent (q .urgent) (q .long) (q .resolution) (p .fresh) in
+    Went (plainTurn (q .urgent) (q .long) (q .resolution)) (length x) (plainLoneIndex S x) (plainLoneSegment x) (grown (p .history) (p′ .history))
+
+abbrev pub plainSlot : Start → (ℕ → ℕ) → Plain → PlainResult
+plainSlot S pick p = record { state = plainWent S pick p (plainSettled p); answer = plainAnswer S p (plainWent S pick p (plainSettled p)) (plainSettled p) }
+
+-- 11: a pick outside 1 to m
+abbrev pub inRange : ℕ → List ℕ → Bool
+inRange m [] = true
+inRange m (x ∷ l) = leb 1 x && leb x m && inRange m l
+
+-- ---- offers
+
+-- the station of an index: the first, counted from k
+abbrev pub stationFrom : ℕ → List ℕ → ℕ → Option ℕ
+stationFrom k [] x = none
+stationFrom k (i ∷ l) x = cond (eqb i x) (some k) (stationFrom (suc k) l x)
+
+-- all slots of some messages; 9: a message of station k is not all delivered
+abbrev pub slotSum : List Message → ℕ
+slotSum [] = 0
+slotSum (m ∷ l) = m .slots + slotSum l
+
+abbrev pub waits : Plain → ℕ → Bool
+waits p k = not (eqb (slotSum (of k (p .taken))) (length (deliveredOf k (p .history))))
+
+-- an offer taken adds a fresh message
+abbrev pub plainAccept : Plain → Message → PlainResult
+plainAccept p m =
+    record {
+      state =
+          record {
+            fresh = p .fresh ++ (m ∷ []);
+            urgent = p .urgent;
+            long = p .long;
+            next = p .next;
+            group = p .group;
+            taken = p .taken ++ (m ∷ []);
+            history = p .history;
+          };
+      answer = Taken (m .slots);
+    }
+
+abbrev pub plainOffer : Plain → ℕ → Option ℕ → PlainResult
+plainOffer p bytes none = plainRefuse p 16
+plainOffer p bytes (some k) =
+    cond (waits p k) (plainRefuse p 9)
+    (cond (fitsMessage bytes) (plainAccept p (record { serial = length (p .taken); station = k; slots = slotsFor bytes })) (plainRefuse p 10))
+
+-- ---- the start, a call, and lists of calls
+
+abbrev pub plainStart : Start → Plain
+plainStart S =
+    record {
+      fresh = [];
+      urgent = [];
+      long = [];
+      next = 1;
+      group = λ g. record { opened = true; asking = askingRow (λ k. 0) [] (S .m) 1; resolution = [] };
+      taken = [];
+      history = [];
+    }
+
+-- a call refused changes nothing: 16, 9, 10; 17, 11, 7. 14 and 18 never come
+abbrev pub plainCall : Start → Plain → Call → PlainResult
+plainCall S p (Offer x bytes) = plainOffer p bytes (stationFrom 0 (S .indexes) x)
+plainCall S p (Slot picks) =
+    cond (eqb (length picks) (length (S .indexes)))
+    (cond (inRange (S .m) picks) (cond (overflows (plainSettled p)) (plainRefuse p 7) (plainSlot S (λ k. getD picks k 1) p)) (plainRefuse p 11))
+    (plainRefuse p 17)
+
+abbrev pub plainAfter : Start → Plain → List Call → Plain
+plainAfter S p [] = p
+plainAfter S p (c ∷ l) = plainAfter S (plainCall S p c .state) l
+
+abbrev pub plainAnswers : Start → Plain → List Call → List Answer
+plainAnswers S p [] = []
+plainAnswers S p (c ∷ l) = plainCall S p c .answer ∷ plainAnswers S (plainCall S p c .state) l
