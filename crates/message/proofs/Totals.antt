@@ -1,10 +1,10 @@
 -- Laws of the slot total: which byte counts are a message's, that the ceiling is the least number of slots that hold the bytes, its bounds, and the answer in either case.
 -- The ceiling is taken by cases on what the division leaves over; the rest is arithmetic.
 -- Assumes nothing.
-use Prim.Native.Nat.{ℕ, _+_, _*_, _/_, _%_, _≤_, _<_}
+use Prim.Native.Nat.{ℕ, _+_, _*_, _%_, _≤_, _<_}
 use native.Mathlib.Omega.{arith}
 use mathlib.Core.Path.{_≡_, refl, sym, _∙_}
-use mathlib.Core.Bool.{Bool, true, false, cond, _&&_}
+use mathlib.Core.Bool.{Bool, true, false, _&&_}
 use lib.Dec.{leb, eqb}
 use borrow.Author.Tests.{leb-true, le-leb, lt-leb, eqb-true, eqb-false}
 use Rattle.message.specs.declared.SlotTotal.the-variants.{Slots, Refused}

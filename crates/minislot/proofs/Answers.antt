@@ -1,17 +1,17 @@
 -- What a row's answer says to the layers above: its number is 6 or that of the first refused minislot, 1 to 4, or 0; and where it is 0 the
 -- weight and the array are those of the feedback heard, one for each minislot.
 -- Assumes nothing.
-use mathlib.Core.Path.{_≡_, refl, ap, _∙_, sym}
+use mathlib.Core.Path.{_≡_, refl, ap, _∙_}
 use mathlib.Core.Bool.{Bool, true, false}
 use mathlib.Core.List.{List, [], _∷_}
-use Prim.Native.Nat.{ℕ, zero, suc, _≤_, _<_}
+use Prim.Native.Nat.{ℕ, zero, suc, _≤_}
 use native.Mathlib.Omega.{arith}
 use lib.ListN.{length, take}
 use Rattle.minislot.specs.declared.Feedback.{Feedback}
 use Rattle.minislot.specs.declared.Reading.{Reading}
 use Rattle.minislot.specs.declared.Reading.the-variants.{Heard, Refused}
 use Rattle.minislot.specs.Reading.{readingOf}
-use Rattle.minislot.specs.Row.{readings, firstNumber, feedbacks, weight, padded, feedbackIn, rowAnswer, minislotsOf, hasMinislots, rowOf}
+use Rattle.minislot.specs.Row.{readings, firstNumber, feedbacks, weight, feedbackIn, rowAnswer, minislotsOf, hasMinislots, rowOf}
 use Rattle.minislot.proofs.Readings.{refusal-number}
 use Rattle.minislot.proofs.Row.{readings-length, padded-holds, row-tests}
 

@@ -1,19 +1,18 @@
 -- What senders leave together in a minislot is read as it should be: none as Empty, one as Single with its index and total, two or more
 -- with different patterns as Collide, whatever their order. Words and counts are ORed. By the laws of an OR's ones at twelve digits.
 -- Assumes nothing.
-use mathlib.Core.Path.{_≡_, refl, ap, ap₂, _∙_, sym}
+use mathlib.Core.Path.{_≡_, ap, _∙_, sym}
 use mathlib.Core.List.{List, [], _∷_, _++_, map}
-use Prim.Native.Nat.{ℕ, zero, suc, _≤_, _<_, _^_, _/_, _%_, max}
+use Prim.Native.Nat.{ℕ, _≤_, _<_}
 use native.Mathlib.Omega.{arith}
-use lib.Bits.{bitOr, or-step, or-comm, or-zero-l, or-zero-r, or-lt}
+use lib.Bits.{bitOr, or-comm, or-zero-l, or-zero-r, or-lt}
 use lib.Count.{ones, ones-le}
 use borrow.Author.Tests.{ne-eqb}
-use Rattle.pattern.specs.Patterns.{wordOf, indexOf}
+use Rattle.pattern.specs.Patterns.{wordOf}
 use Rattle.pattern.proofs.Ones.{or-at-least, or-more, ones-of-zero, or-assoc}
 use Rattle.pattern.proofs.Patterns.{pattern-below, pattern-ones, pattern-once, index-of-word}
 use Rattle.minislot.specs.declared.Minislot.{Minislot}
-use Rattle.minislot.specs.declared.Feedback.the-variants.{Empty, Single, Collide}
-use Rattle.minislot.specs.declared.Reading.the-variants.{Heard, Refused}
+use Rattle.minislot.specs.declared.Reading.the-variants.{Heard}
 use Rattle.minislot.specs.Reading.{readingOf}
 use Rattle.minislot.specs.Together.{Request, carries, silent, joined, together, spoken, Proper}
 use Rattle.minislot.proofs.Readings.{reads-empty, reads-single, reads-collide}

@@ -4,7 +4,6 @@ use Prim.Native.Nat.{ℕ}
 use lib.Count.{ones}
 use lib.Dec.{eqb, ltb}
 use Rattle.pattern.specs.Patterns.{indexOf}
-use Rattle.minislot.specs.declared.Feedback.{Feedback}
 use Rattle.minislot.specs.declared.Feedback.the-variants.{Empty, Single, Collide}
 use Rattle.minislot.specs.declared.Reading.{Reading}
 use Rattle.minislot.specs.declared.Reading.the-variants.{Heard, Refused}

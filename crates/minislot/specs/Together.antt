@@ -1,7 +1,7 @@
 -- Several senders in one minislot (paper: the OR of their words and the OR of their counts; none gives 0 and 0), and what is to be read of
 -- them. Assumes nothing.
 use mathlib.Core.Path.{_≡_}
-use mathlib.Core.List.{List, [], _∷_, map}
+use mathlib.Core.List.{List, [], _∷_}
 use Prim.Native.Nat.{ℕ, _≤_, _<_}
 use lib.Bits.{bitOr}
 use Rattle.pattern.specs.Patterns.{wordOf}

@@ -1,7 +1,7 @@
 -- The numbers of a range that pass a test, listed in rising order: they lie in the range, rise, pass, and are all that pass. And the
 -- place of a number in a rising list. For any test and any range. By induction on the range or the list.
 -- Assumes nothing.
-use mathlib.Core.Path.{_≡_, refl, ap, _∙_, sym, subst}
+use mathlib.Core.Path.{_≡_, refl, ap, _∙_, subst}
 use mathlib.Core.Bool.{Bool, true, false}
 use mathlib.Core.List.{List, [], _∷_}
 use mathlib.Core.Logic.{⊎-elim}

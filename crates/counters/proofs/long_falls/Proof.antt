@@ -1,5 +1,4 @@
 -- `long_falls` is N's fall by the turn. Assumes nothing.
-use mathlib.Core.Path.{_∙_}
 use borrow.Author.Needs.{needs}
 use Rattle.counters.proofs.long_falls.Statement.{statement}
 use Rattle.counters.proofs.long_falls.Tie as tie

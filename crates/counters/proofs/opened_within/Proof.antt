@@ -1,12 +1,11 @@
 -- `opened_within` tests the marks of the groups above n: each one before i is yes, and one that is no fails the list.
 -- Assumes nothing.
-use mathlib.Core.Path.{_≡_, refl, sym}
+use mathlib.Core.Path.{_≡_, sym}
 use mathlib.Core.Bool.{true, false}
 use mathlib.Core.Logic.{⊎-elim}
 use Prim.Native.Nat.{ℕ, _-_, _≤_, _<_}
 use native.Mathlib.Omega.{arith}
 use borrow.Author.Needs.{needs}
-use borrow.Author.Tests.{lt-ltb, le-ltb}
 use lib.ListN.{length, getD}
 use Rattle.listlaws.proofs.Table.{every-fails, every-holds}
 use Rattle.counters.proofs.Arms.{opened-any, opened-above, lt-or-eq, decide}

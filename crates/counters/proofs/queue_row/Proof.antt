@@ -1,16 +1,15 @@
 -- `queue_row` folds step 1 over the first m minislots. After j of them the lengths are those of the first j, and have grown by at most 1 a
 -- minislot, or 255 for N.
 -- Assumes nothing.
-use mathlib.Core.Path.{_≡_, refl, _∙_, sym}
+use mathlib.Core.Path.{_≡_, refl, _∙_}
 use mathlib.Core.List.{foldl}
-use Prim.Native.Nat.{ℕ, _+_, _*_, _-_, _≤_, _<_}
+use Prim.Native.Nat.{_+_, _*_, _-_, _≤_, _<_}
 use native.Mathlib.Numerals.{add-one}
 use native.Mathlib.Omega.{arith}
 use borrow.Author.Needs.{needs}
 use lib.ListN.{length, take, length-map, List·getD-map}
 use Rattle.listlaws.proofs.Fold.{fold-more}
 use Rattle.minislot.specs.declared.MinislotFeedback.{MinislotFeedback}
-use Rattle.minislot.specs.declared.Feedback.{Feedback}
 use Rattle.minislot.specs.declared.Feedback.the-variants.{Empty}
 use Rattle.minislot.specs.Row.{feedbackIn}
 use Rattle.rules.specs.Queueing.{queued, queuedRow}

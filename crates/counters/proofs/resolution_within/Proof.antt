@@ -1,12 +1,11 @@
 -- `resolution_within` tests each group's RQ in turn: each one before i passed, and one that fails fails the list.
 -- Assumes nothing.
-use mathlib.Core.Path.{_≡_, refl, sym}
+use mathlib.Core.Path.{_≡_, sym}
 use mathlib.Core.Bool.{true}
 use mathlib.Core.Logic.{⊎-elim}
 use Prim.Native.Nat.{ℕ, _-_, _≤_, _<_}
 use native.Mathlib.Omega.{arith}
 use borrow.Author.Needs.{needs}
-use borrow.Author.Tests.{lt-ltb, le-ltb, lt-leb, le-leb, eq-eqb, ne-eqb}
 use lib.ListN.{length, getD}
 use Rattle.listlaws.proofs.Table.{every-fails, every-holds}
 use Rattle.counters.proofs.Arms.{resolution-fits, resolution-over, resolution-idle, resolution-stray}

@@ -1,5 +1,4 @@
 -- `urgent_falls` is H's fall by the turn. Assumes nothing.
-use mathlib.Core.Path.{_∙_}
 use borrow.Author.Needs.{needs}
 use Rattle.counters.proofs.urgent_falls.Statement.{statement}
 use Rattle.counters.proofs.urgent_falls.Tie as tie

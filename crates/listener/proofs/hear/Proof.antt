@@ -1,5 +1,4 @@
 -- `hear` goes by the row's number. Assumes nothing.
-use mathlib.Core.Path.{_∙_}
 use borrow.Author.Tests.{eq-eqb, ne-eqb}
 use borrow.Author.Needs.{needs}
 use Rattle.listener.proofs.hear.Statement.{statement}

@@ -1,5 +1,5 @@
 -- `listen` gives 18, or what the row's reading leads to. Assumes nothing.
-use mathlib.Core.Path.{_≡_, _∙_, sym}
+use mathlib.Core.Path.{_∙_, sym}
 use Rattle.rules.proofs.ListeningLaws.{listening-18, row-heard, listening-row}
 use borrow.Author.Needs.{needs}
 use Rattle.listener.proofs.listen.Statement.{statement}

@@ -1,5 +1,5 @@
 -- `listen_at` gives 18, or what the row's reading leads to. Assumes nothing.
-use mathlib.Core.Path.{_≡_, _∙_, sym}
+use mathlib.Core.Path.{_∙_, sym}
 use lib.ListN.{take, drop}
 use Rattle.minislot.specs.Row.{rowAtOf}
 use Rattle.rules.specs.Recorded.{listeningAtOf}

@@ -1,5 +1,5 @@
 -- `listen_row` is steps 1 to 5, each by the function of its rule. Assumes nothing.
-use mathlib.Core.Path.{_≡_, _∙_, sym}
+use mathlib.Core.Path.{_∙_, sym}
 use native.Mathlib.Omega.{arith}
 use lib.ListN.{take}
 use Rattle.minislot.specs.Row.{feedbackIn}

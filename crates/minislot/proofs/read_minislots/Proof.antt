@@ -2,17 +2,15 @@
 -- readings; a refused one gives its number, and after the last the answer is the whole row's.
 -- Assumes nothing.
 use mathlib.Core.Path.{_≡_, refl, _∙_, sym, ap}
-use mathlib.Core.List.{List}
-use Prim.Native.Nat.{ℕ, _+_, _*_, _-_, _≤_, _<_}
+use Prim.Native.Nat.{_*_, _-_, _≤_, _<_}
 use native.Mathlib.Numerals.{add-one}
 use native.Mathlib.Omega.{arith}
 use borrow.Author.Needs.{needs}
 use lib.ListN.{length, getD, take}
 use lib.Seq.{take-length}
-use Rattle.minislot.specs.declared.Reading.{Reading}
 use Rattle.minislot.specs.declared.Reading.the-variants.{Heard, Refused}
 use Rattle.minislot.specs.Reading.{numberOf}
-use Rattle.minislot.specs.Row.{weightOf, minislotsOf, readings, feedbacks, weight as weightAll, padded}
+use Rattle.minislot.specs.Row.{readings, feedbacks, weight as weightAll, padded}
 use Rattle.minislot.proofs.Readings.{refusal-number}
 use Rattle.minislot.proofs.Row.{weight-few, readings-length, readings-at, heard-count, heard-weight, heard-padded, refused-first, refused-answer, heard-answer}
 use Rattle.minislot.proofs.read_minislots.Statement.{statement}

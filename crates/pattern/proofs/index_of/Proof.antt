@@ -7,7 +7,6 @@ use native.Mathlib.Omega.{arith}
 use borrow.Author.Needs.{needs}
 use lib.Count.{ones}
 use lib.ListN.{getD}
-use Rattle.pattern.specs.Patterns.{indexOf}
 use Rattle.pattern.proofs.Patterns.{before, rank, no-index, pattern-of, index-in-halves}
 use Rattle.pattern.proofs.index_of.Statement.{statement}
 use Rattle.pattern.proofs.index_of.Tie as tie

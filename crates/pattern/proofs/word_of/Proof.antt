@@ -1,6 +1,6 @@
 -- `word_of` gives an index's word: the table's entry, or 0 past its end. The table is the list of the patterns, by computation.
 -- Assumes nothing.
-use mathlib.Core.Path.{_≡_, sym}
+use mathlib.Core.Path.{sym}
 use native.Mathlib.Omega.{arith}
 use Rattle.pattern.specs.Patterns.{patterns, wordOf}
 use Rattle.pattern.proofs.Patterns.{no-pattern}
