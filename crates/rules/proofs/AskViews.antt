@@ -1,18 +1,17 @@
 -- Step 3: who asks and where, seen by one station. Assumes nothing.
-use mathlib.Core.Path.{_≡_, refl, sym, ap, subst, _∙_}
+use mathlib.Core.Path.{_≡_, refl, sym, _∙_}
 use mathlib.Core.Bool.{Bool, true, false}
-use mathlib.Core.List.{List, [], _∷_, _++_, map}
+use mathlib.Core.List.{List, [], _∷_}
 use Prim.Native.Nat.{ℕ, zero, suc, _+_, _-_, _≤_, _<_}
 use native.Mathlib.Omega.{arith}
-use lib.ListN.{length, length-append}
-use Rattle.rules.proofs.QueueViews.{seen-more, seen-behind, seen-one, shifted-cong, shifted-at, first-nil, shifted-nil}
+use lib.ListN.{length}
+use Rattle.rules.proofs.QueueViews.{shifted-nil}
 use Rattle.rules.proofs.Clauses.{asks, front}
 use Rattle.rules.proofs.Relation.{freshOf, askedOf, resolvingOf}
-use Rattle.rules.proofs.Views.{eqb-self, seen, atFirst, shifted, atPlace, run}
+use Rattle.rules.proofs.Views.{eqb-self, seen, atFirst, shifted, atPlace}
 use Rattle.rules.specs.Lists.{keepIf, onlyIf}
-use Rattle.rules.specs.Messages.{Message, Segment, of, segment, segmentsFrom}
+use Rattle.rules.specs.Messages.{Message, of}
 use Rattle.rules.specs.Plain.{askers, staysFresh, rest, pickedIn, askingRow}
-use Rattle.rules.specs.Positions.{one, part}
 use Rattle.rules.specs.StationLimits.{Condition, Free, Fresh, Asked, Resolving, Urgent, Long}
 use borrow.Author.Tests.{eqb-true, ne-eqb}
 use lib.Dec.{eqb}
@@ -40,12 +39,12 @@ module _ (pick : ℕ → ℕ) (k : ℕ) where
   asking-none l (suc n) j h zero = of-picked j l ∙ rw (ne-eqb (pick k) j (λ e. omega arith))
   asking-none l (suc n) j h (suc i) = asking-none l n (suc j) (omega arith) i
 
-  asking-late : (l : List Message) (n j d : ℕ) → pick k ≡ j + d → d < n → (i : ℕ) → seen (of k) (askingRow pick l n j) i ≡ shifted d (atFirst (of k l)) i
-  asking-late l zero j d e h i = absurd (omega arith)
-  asking-late l (suc n) j zero e h zero = of-picked j l ∙ rw (let t : pick k ≡ j = omega arith in t, eqb-self j)
-  asking-late l (suc n) j zero e h (suc i) = asking-none l n (suc j) (omega arith) i
-  asking-late l (suc n) j (suc d) e h zero = of-picked j l ∙ rw (ne-eqb (pick k) j (λ x. omega arith))
-  asking-late l (suc n) j (suc d) e h (suc i) = asking-late l n (suc j) d (omega arith) (omega arith) i
+  asking-shifted : (l : List Message) (n j d : ℕ) → pick k ≡ j + d → d < n → (i : ℕ) → seen (of k) (askingRow pick l n j) i ≡ shifted d (atFirst (of k l)) i
+  asking-shifted l zero j d e h i = absurd (omega arith)
+  asking-shifted l (suc n) j zero e h zero = of-picked j l ∙ rw (let t : pick k ≡ j = omega arith in t, eqb-self j)
+  asking-shifted l (suc n) j zero e h (suc i) = asking-none l n (suc j) (omega arith) i
+  asking-shifted l (suc n) j (suc d) e h zero = of-picked j l ∙ rw (ne-eqb (pick k) j (λ x. omega arith))
+  asking-shifted l (suc n) j (suc d) e h (suc i) = asking-shifted l n (suc j) d (omega arith) (omega arith) i
 
   -- the new row: the station's askers in its pick, and nothing elsewhere
   pub asking-place : (l : List Message) (n : ℕ) → 1 ≤ pick k → pick k ≤ n → (i : ℕ) → seen (of k) (askingRow pick l n 1) i ≡ atPlace (pick k) (atFirst (of k l)) i
@@ -53,7 +52,7 @@ module _ (pick : ℕ → ℕ) (k : ℕ) where
     where
       go : (x : ℕ) → pick k ≡ x → seen (of k) (askingRow pick l n 1) i ≡ atPlace x (atFirst (of k l)) i
       go zero e = absurd (omega arith)
-      go (suc d) e = asking-late l n 1 d (omega arith) (omega arith) i
+      go (suc d) e = asking-shifted l n 1 d (omega arith) (omega arith) i
 
   pub asking-not : (l : List Message) (n : ℕ) → 1 ≤ pick k → pick k ≤ n → of k l ≡ [] → (i : ℕ) → seen (of k) (askingRow pick l n 1) i ≡ []
   asking-not l n lo hi e i = asking-place l n lo hi i ∙ rw e (go (pick k))

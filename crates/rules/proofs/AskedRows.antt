@@ -1,24 +1,24 @@
 -- The row that the stations asked there make is the row of the plain channel's asking messages. Assumes nothing.
-use mathlib.Core.Path.{_≡_, refl, sym, ap, subst, _∙_}
+use mathlib.Core.Path.{_≡_, refl, sym, ap, _∙_}
 use mathlib.Core.Bool.{Bool, true, false}
-use mathlib.Core.List.{List, [], _∷_, _++_, map}
-use Prim.Native.Nat.{ℕ, zero, suc, _+_, _-_, _≤_, _<_}
+use mathlib.Core.List.{List, [], _∷_, map}
+use Prim.Native.Nat.{ℕ, zero, suc, _+_, _-_, _≤_}
 use native.Mathlib.Omega.{arith}
 use lib.ListN.{length}
+use Rattle.rules.proofs.QueueViews.{place-map}
 use Rattle.rules.proofs.Census.{hearing-eq, gather-of}
 use Rattle.minislot.specs.Row.{weight}
 use Rattle.minislot.specs.declared.Feedback.{Feedback}
-use Rattle.rules.proofs.Clauses.{hearing, read}
+use Rattle.rules.proofs.Clauses.{read}
 use Rattle.rules.proofs.Relation.{Agrees, askedOf}
 use Rattle.rules.proofs.Shared.{gather, askedSender, askedRow}
-use Rattle.rules.proofs.Views.{Sender, senderAt, requestFrom, eqb-self, seen, atFirst, shifted, atPlace}
+use Rattle.rules.proofs.Views.{Sender, senderAt, requestFrom, seen, atFirst, atPlace}
 use Rattle.rules.specs.Calls.{Start, index}
 use Rattle.rules.specs.Lists.{keepIf, onlyIf}
 use Rattle.rules.specs.Messages.{Message, ofBy, of}
 use Rattle.rules.specs.Plain.{Plain, plainWeight}
 use Rattle.rules.specs.StationLimits.{Condition, Free, Fresh, Asked, Resolving, Urgent, Long}
-use borrow.Author.Tests.{eqb-true, ne-eqb, eqb-false}
-use lib.Dec.{eqb, eqb·suc-suc}
+use lib.Dec.{eqb}
 
 pub onlyIf-nil {ℓ} : {A : Type ℓ} (b : Bool) → onlyIf {A = A} b [] ≡ []
 onlyIf-nil true = refl
@@ -51,17 +51,6 @@ asked-own g i j k (Resolving h a t) = sym (onlyIf-nil (eqb j k))
 asked-own g i j k (Urgent a) = sym (onlyIf-nil (eqb j k))
 asked-own g i j k (Long f l t) = sym (onlyIf-nil (eqb j k))
 
--- a place counted from 1 is a test on its number
-shifted-request : (m : Message) (n i : ℕ) → map requestFrom (shifted n (atFirst (m ∷ [])) i) ≡ onlyIf (eqb n i) (requestFrom m ∷ [])
-shifted-request m zero zero = refl
-shifted-request m zero (suc i) = rw (ne-eqb zero (suc i) (λ e. omega arith))
-shifted-request m (suc n) zero = rw (ne-eqb (suc n) zero (λ e. omega arith))
-shifted-request m (suc n) (suc i) = shifted-request m n i ∙ rw (eqb·suc-suc n i)
-
-place-request : (m : Message) (n i : ℕ) → map requestFrom (atPlace n (atFirst (m ∷ [])) i) ≡ onlyIf (eqb n (suc i)) (requestFrom m ∷ [])
-place-request m zero i = rw (ne-eqb zero (suc i) (λ e. omega arith))
-place-request m (suc n) i = shifted-request m n i ∙ rw (eqb·suc-suc n i)
-
 -- minislot i of a row that begins with minislot j
 abbrev up : ℕ → ℕ → ℕ
 up j zero = j
@@ -88,7 +77,7 @@ calls S p g k m (Fresh t) a i = refl
 calls S p g k m (Asked h j t) a i = go (eqb h g)
   where
     go : (b : Bool) → map requestFrom (onlyIf b (atPlace j (atFirst (m ∷ [])) i)) ≡ onlyIf b (onlyIf (eqb j (suc i)) (senderAt k t ∷ []))
-    go true = place-request m j i ∙ ap (λ (s : Sender). onlyIf (eqb j (suc i)) (s ∷ [])) (let e : m .station ≡ k = a .mine in let f : t ≡ m .slots = a .fits .0 in cc)
+    go true = place-map requestFrom m j i ∙ ap (λ (s : Sender). onlyIf (eqb j (suc i)) (s ∷ [])) (let e : m .station ≡ k = a .mine in let f : t ≡ m .slots = a .fits .0 in cc)
     go false = refl
 calls S p g k m (Resolving h j t) a i = refl
 calls S p g k m (Urgent j) a i = refl

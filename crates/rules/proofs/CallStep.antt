@@ -1,7 +1,7 @@
 -- Every call keeps the relation and answers alike, refused or not; so does every list of calls after a start. Assumes nothing.
-use mathlib.Core.Path.{_≡_, refl, sym, ap, subst, _∙_}
-use mathlib.Core.Bool.{Bool, true, false, not, cond, _&&_, _||_}
-use mathlib.Core.List.{List, [], _∷_, _++_, map, append-nil, append-assoc}
+use mathlib.Core.Path.{_≡_, refl, sym, ap, _∙_}
+use mathlib.Core.Bool.{Bool, true, false, not, cond, _&&_}
+use mathlib.Core.List.{List, [], _∷_, _++_, append-nil, append-assoc}
 use mathlib.Core.Option.{Option, none, some}
 use mathlib.Core.Logic.{_≢_}
 use Prim.Native.Nat.{ℕ, zero, suc, _+_, _-_, _≤_, _<_, _/_, _%_}
@@ -12,12 +12,11 @@ use Rattle.rules.proofs.QueueViews.{length-segments}
 use Rattle.rules.proofs.Landing.{ofBy-append}
 use Rattle.rules.proofs.SlotStep.{and-both, slot-same, slot-answer, settled-eq, passes-eq, length-asking}
 use Rattle.message.specs.Message.{fitsMessage, slotsFor, ceiling}
-use Rattle.rules.proofs.Relation.{lengths, Agrees, Numbered, Same, SameResult, Fits, remaining, whole, freshOf, askedOf, resolvingOf, urgentOf, longOf}
+use Rattle.rules.proofs.Relation.{Agrees, Numbered, Same, SameResult, Fits, remaining, whole}
 use Rattle.rules.proofs.Shared.{Table, TableResult, tableStart, tableRefuse, tableAccept, tableOffer, tableCall, tableSettled, tableSlot, tableRow, tableSuccess}
 use Rattle.rules.proofs.Views.{eqb-self, seen}
-use Rattle.rules.specs.Calls.{Start, index, Call, Offer, Slot, Answer, Refused, Taken, Went}
-use Rattle.rules.specs.Lists.{keepIf}
-use Rattle.rules.specs.Messages.{Message, Segment, of, ofBy, segmentsFrom, deliveredOf}
+use Rattle.rules.specs.Calls.{Start, Call, Offer, Slot}
+use Rattle.rules.specs.Messages.{Message, Segment, of, segmentsFrom, deliveredOf}
 use Rattle.rules.specs.Plain.{stationFrom, inRange, Plain, PlainResult, plainStart, plainRefuse, plainAccept, plainOffer, plainCall, overflows, waits, slotSum, askingRow, plainSettled, plainSlot}
 use Rattle.rules.specs.Queueing.{passes}
 use Rattle.rules.specs.Serving.{waiting}

@@ -1,16 +1,14 @@
 -- Two lists with the same entries of every key are read alike and have one length; a walk over the stations shows each station's own entries.
 -- Assumes nothing.
-use mathlib.Core.Path.{_≡_, refl, sym, ap, subst, _∙_}
+use mathlib.Core.Path.{_≡_, refl, sym, ap, _∙_}
 use mathlib.Core.Bool.{Bool, true, false}
-use mathlib.Core.List.{List, [], _∷_, _++_, map, append-nil}
+use mathlib.Core.List.{List, [], _∷_, _++_, append-nil}
 use Prim.Native.Nat.{ℕ, zero, suc, _+_, _-_, _≤_, _<_}
 use native.Mathlib.Omega.{arith}
 use native.Mathlib.Decide.{decLt}
 use mathlib.Core.Logic.{by-cases, _≢_}
-use lib.ListN.{length, length-append}
+use lib.ListN.{length}
 use Rattle.rules.proofs.Landing.{ofBy-append}
-use Rattle.minislot.specs.declared.Feedback.{Feedback}
-use Rattle.minislot.specs.declared.Feedback.the-variants.{Empty, Single, Collide}
 use Rattle.rules.proofs.Clauses.{hearing}
 use Rattle.rules.proofs.Shared.{collect, gather}
 use Rattle.rules.proofs.Views.{Sender, eqb-self}
@@ -60,6 +58,10 @@ total (suc k) f = f k + total k f
 pub total-cong : (K : ℕ) (f g : ℕ → ℕ) → ((k : ℕ) → f k ≡ g k) → total K f ≡ total K g
 total-cong zero f g h = refl
 total-cong (suc k) f g h = rw (h k, total-cong k f g h)
+
+pub total-add : (K : ℕ) (f g : ℕ → ℕ) → total K (λ k. f k + g k) ≡ total K f + total K g
+total-add zero f g = omega arith
+total-add (suc K) f g = omega (arith, total-add K f g)
 
 abbrev bump : Bool → ℕ → ℕ
 bump true n = suc n

@@ -1,22 +1,22 @@
 -- Each counter's law of change in one slot, and that listening is a function of the record and the row: equal records that hear equal rows
 -- are equal after, with equal answers. By induction on the row, then by the turn.
 -- Assumes nothing.
-use mathlib.Core.Path.{_≡_, refl, ap, _∙_, sym}
+use mathlib.Core.Path.{_≡_, refl, ap, _∙_}
 use mathlib.Core.Bool.{Bool, true, false, cond}
-use mathlib.Core.List.{List, [], _∷_, foldl}
-use Prim.Native.Nat.{ℕ, _+_, _-_, _≤_, _<_}
+use mathlib.Core.List.{List, [], _∷_}
+use Prim.Native.Nat.{ℕ, _+_, _-_, _<_}
 use native.Mathlib.Omega.{arith}
 use lib.Dec.{eqb, ltb}
-use lib.ListN.{length, getD}
+use lib.ListN.{length}
 use lib.Seq.{getD-set-same, getD-set-other}
-use borrow.Author.Tests.{ltb-true, ltb-false}
+use borrow.Author.Tests.{ltb-true}
 use Rattle.minislot.specs.declared.Feedback.{Feedback}
 use Rattle.minislot.specs.declared.Feedback.the-variants.{Empty, Single, Collide}
 use Rattle.rules.specs.declared.Counters.{Counters}
 use Rattle.rules.specs.declared.Places.{Places}
 use Rattle.rules.specs.Limits.{withinLimits}
 use Rattle.rules.specs.Queueing.{queued, queuedSingle, queuedRow, placesOf, immediateOf, placesAfter}
-use Rattle.rules.specs.Turns.{Turn, UrgentTurn, LongTurn, ResolveTurn, OpenTurn, turnOf}
+use Rattle.rules.specs.Turns.{UrgentTurn, LongTurn, ResolveTurn, OpenTurn, turnOf}
 use Rattle.rules.specs.Falling.{fallen, urgentFalls, longFalls}
 use Rattle.rules.specs.Listening.{listeningOf}
 use Rattle.rules.specs.Changes.{shortSingles, longSlots, collides, urgentServed, longServed, Changes}

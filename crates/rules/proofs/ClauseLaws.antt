@@ -1,29 +1,24 @@
 -- The rules of specs/ and their shape by clauses are equal: step by step, for conditions whose places count from 1. Assumes nothing.
-use mathlib.Core.Path.{_≡_, refl, sym, ap, subst, _∙_}
-use mathlib.Core.Bool.{Bool, true, false, _&&_, cond}
-use mathlib.Core.List.{List, [], _∷_, map}
-use mathlib.Core.Logic.{_≢_}
-use Prim.Native.Nat.{ℕ, zero, suc, _+_, _-_, _≤_, _<_}
+use mathlib.Core.Path.{_≡_, refl, ap, _∙_}
+use mathlib.Core.Bool.{Bool, true, false, cond}
+use mathlib.Core.List.{List, [], _∷_}
+use Prim.Native.Nat.{ℕ, zero, suc, _-_, _≤_}
 use native.Mathlib.Omega.{arith}
 use native.Mathlib.Numerals.{add-one}
 use lib.Dec.{ltb, eqb}
-use lib.ListN.{length, getD, take}
-use borrow.Author.Tests.{lt-ltb, ne-eqb, eqb-true, eqb-false}
+use lib.ListN.{getD, take}
+use borrow.Author.Tests.{lt-ltb, ne-eqb}
 use Rattle.minislot.specs.declared.Feedback.{Feedback}
-use Rattle.minislot.specs.declared.Feedback.the-variants.{Empty, Single, Collide}
-use Rattle.minislot.specs.Together.{Request}
+use Rattle.minislot.specs.declared.Feedback.the-variants.{Empty}
 use Rattle.rules.specs.declared.Places.{Places}
-use Rattle.rules.specs.Lists.{onlyIf}
 use Rattle.rules.specs.Queueing.{queued, queuedRow}
 use Rattle.rules.specs.Turns.{Turn, UrgentTurn, LongTurn, ResolveTurn, OpenTurn, turnOf}
-use Rattle.rules.specs.Falling.{urgentFalls, longFalls, resolutionFalls}
+use Rattle.rules.specs.Falling.{urgentFalls, longFalls}
 use Rattle.rules.specs.StationLimits.{Condition, Free, Fresh, Asked, Resolving, Urgent, Long}
 use Rattle.rules.specs.Settling.{standsAfter, settledBy}
-use Rattle.rules.specs.Requesting.{waitsIn, requests, requested, totalOf}
+use Rattle.rules.specs.Requesting.{requests, requested}
 use Rattle.rules.specs.Serving.{sends, moved}
-use Rattle.rules.specs.StationCalls.{requestMinislot}
-use Rattle.rules.proofs.Views.{Sender, senderAt, eqb-self}
-use Rattle.rules.proofs.Clauses.{after, settle, front, asks, lower, shorter, falls, sendsBy, serves, less, nLeft, requestSender}
+use Rattle.rules.proofs.Clauses.{after, settle, front, asks, lower, shorter, falls, sendsBy, less, nLeft}
 
 -- a place, a minislot and a stretch count from 1
 abbrev pub Placed : Condition → Type 0

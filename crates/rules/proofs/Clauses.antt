@@ -1,10 +1,9 @@
 -- The station's rules by clauses on places and lengths, as the proof by induction takes them apart. Each is the rule of specs/ in another shape:
 -- proofs/ClauseLaws proves them equal. Assumes nothing.
-use mathlib.Core.Bool.{Bool, true, false, _&&_, cond}
-use mathlib.Core.List.{List, [], _∷_, _++_, map}
-use Prim.Native.Nat.{ℕ, zero, suc, _+_, _-_, _≤_}
+use mathlib.Core.Bool.{Bool, true, false, cond}
+use mathlib.Core.List.{List, [], _∷_, map}
+use Prim.Native.Nat.{ℕ, zero, suc, _-_}
 use lib.Dec.{eqb}
-use lib.ListN.{length}
 use Rattle.minislot.specs.declared.Feedback.{Feedback}
 use Rattle.minislot.specs.declared.Feedback.the-variants.{Empty, Single, Collide}
 use Rattle.rules.specs.declared.Places.{Places}

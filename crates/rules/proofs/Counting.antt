@@ -1,6 +1,6 @@
 -- Counting places: a list of places inside 1 to H, as long as H and without repeats, has every place once, and the other way round; the same of stretches,
 -- and of places named twice or more. Assumes nothing.
-use mathlib.Core.Path.{_≡_, refl, sym, ap, subst, _∙_}
+use mathlib.Core.Path.{_≡_, refl, sym, ap, _∙_}
 use mathlib.Core.Bool.{Bool, true, false, not, cond, _&&_, _||_}
 use mathlib.Core.List.{List, [], _∷_, _++_}
 use mathlib.Core.Logic.{_≢_, by-cases}
@@ -9,12 +9,11 @@ use native.Mathlib.Omega.{arith}
 use native.Mathlib.Decide.{decLt}
 use lib.Dec.{eqb, leb, ltb}
 use lib.ListN.{length, length-append}
-use borrow.Author.Tests.{eqb-true, eqb-false, ne-eqb, leb-true, leb-false, le-leb, lt-leb, lt-ltb, le-ltb, ltb-true, ltb-false}
+use borrow.Author.Tests.{eqb-true, eqb-false, ne-eqb, leb-true, leb-false, le-leb, ltb-true, ltb-false}
 use Rattle.rules.specs.Lists.{each, eachPair, sumOf, countOf, gatherOf}
-use Rattle.rules.specs.Limits.{between}
 use Rattle.rules.specs.Soundness.{differ, Stretch, apart, differentPlaces, namedTwice}
 use Rattle.rules.proofs.Views.{eqb-self}
-use Rattle.rules.proofs.Census.{total, total-cong}
+use Rattle.rules.proofs.Census.{total, total-cong, total-add}
 use Rattle.rules.proofs.SlotStep.{and-both}
 
 -- how often a place is named
@@ -40,14 +39,6 @@ total-zero : (K : ℕ) → total K (λ i. 0) ≡ 0
 total-zero zero = refl
 total-zero (suc K) = omega (arith, total-zero K)
 
-total-plus : (K : ℕ) (f g : ℕ → ℕ) → total K (λ i. f i + g i) ≡ total K f + total K g
-total-plus zero f g = omega arith
-total-plus (suc K) f g = omega (arith, total-plus K f g)
-
-total-below : (K : ℕ) (f g : ℕ → ℕ) → ((i : ℕ) → i < K → f i ≡ g i) → total K f ≡ total K g
-total-below zero f g h = refl
-total-below (suc K) f g h = omega (arith, h K (omega arith), total-below K f g (λ i w. h i (omega arith)))
-
 -- one place
 hit-past : (K j : ℕ) → K < j → total K (λ i. cond (eqb (suc i) j) 1 0) ≡ 0
 hit-past zero j h = refl
@@ -65,7 +56,7 @@ hit-once (suc K) j lo hi = go (eqb (suc K) j) refl (λ w. hit-once K j lo w)
 pub length-places : (H : ℕ) (l : List ℕ) → Inside H l → length l ≡ total H (λ i. times (suc i) l)
 length-places H [] p = sym (total-zero H)
 length-places H (x ∷ l) p =
-    omega (arith, total-plus H (λ i. cond (eqb (suc i) x) 1 0) (λ i. times (suc i) l), hit-once H x (p .0) (p .1), length-places H l (p .2))
+    omega (arith, total-add H (λ i. cond (eqb (suc i) x) 1 0) (λ i. times (suc i) l), hit-once H x (p .0) (p .1), length-places H l (p .2))
 
 -- a place outside is not named
 pub times-outside : (H : ℕ) (l : List ℕ) → Inside H l → (i : ℕ) → H < i → times i l ≡ 0
@@ -266,7 +257,7 @@ different-places R (x ∷ l) p = go (each (differ x) l) refl (different-places R
         omega (
           arith,
           hit-once R x (p .0) (p .1),
-          total-plus R (λ i. cond (eqb (suc i) x) 1 0) (λ i. sign (times (suc i) l)),
+          total-add R (λ i. cond (eqb (suc i) x) 1 0) (λ i. sign (times (suc i) l)),
           total-cong R (λ i. sign (cond (eqb (suc i) x) 1 0 + times (suc i) l)) (λ i. cond (eqb (suc i) x) 1 0 + sign (times (suc i) l)) (λ i. new i (eqb (suc i) x) refl),
         )
       where

@@ -1,23 +1,23 @@
 -- Who sends data in a slot: the plain channel's list and the stations' have the same entries of every station. Assumes nothing.
-use mathlib.Core.Path.{_≡_, refl, sym, ap, subst, _∙_}
+use mathlib.Core.Path.{_≡_, refl, sym, ap, _∙_}
 use mathlib.Core.Bool.{Bool, true, false, cond}
-use mathlib.Core.List.{List, [], _∷_, _++_, map}
-use Prim.Native.Nat.{ℕ, zero, suc, _+_, _-_, _≤_, _<_}
+use mathlib.Core.List.{List, [], _∷_, map}
+use Prim.Native.Nat.{ℕ, zero, suc, _-_, _≤_}
 use native.Mathlib.Omega.{arith}
 use lib.ListN.{length}
-use Rattle.rules.proofs.Census.{hearing-eq, gather-of, length-total, length-gather, total, total-cong}
+use Rattle.rules.proofs.Census.{hearing-eq, gather-of, length-total, length-gather, total-cong}
 use Rattle.rules.proofs.AskedRows.{onlyIf-nil, keepIf-onlyIf}
 use Rattle.rules.proofs.Clauses.{hearing, sendsBy}
 use Rattle.rules.proofs.Relation.{Fits, freshOf, urgentOf, longOf}
 use Rattle.rules.proofs.Shared.{gather, senderIf}
-use Rattle.rules.proofs.Views.{Sender, senderAt, dataFrom, eqb-self, seen, atFirst, shifted, atPlace, run}
+use Rattle.rules.proofs.Views.{Sender, senderAt, dataFrom, seen}
 use Rattle.rules.specs.Calls.{Start}
 use Rattle.rules.specs.Lists.{keepIf, onlyIf}
 use Rattle.rules.specs.Messages.{Message, Segment, segment, ofBy, of}
 use Rattle.rules.specs.Plain.{sent, oneSlot}
 use Rattle.rules.specs.Positions.{one, part}
 use Rattle.rules.specs.StationLimits.{Condition, Free, Fresh, Asked, Resolving, Urgent, Long}
-use borrow.Author.Tests.{eqb-true, ne-eqb, eqb-false}
+use borrow.Author.Tests.{eqb-true, ne-eqb}
 use lib.Dec.{eqb}
 
 abbrev keyed : ℕ → List Sender → List Sender

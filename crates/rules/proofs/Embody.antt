@@ -1,53 +1,33 @@
 -- Every call of the channel is the shared table's call: records, wire and answer. The table is sound, as a hypothesis (proofs/SoundKept discharges it).
 -- Assumes nothing.
 use mathlib.Core.Path.{_≡_, refl, sym, ap, subst, _∙_}
-use mathlib.Core.Bool.{Bool, true, false, not, cond, _&&_}
-use mathlib.Core.List.{List, [], _∷_, _++_, map}
-use mathlib.Core.Logic.{_⊎_, inl, inr, _≢_}
-use mathlib.Core.Option.{Option, none, some}
+use mathlib.Core.Bool.{Bool, true, false, cond, _&&_}
+use mathlib.Core.List.{List, [], _∷_, map}
+use mathlib.Core.Logic.{inl, inr}
+use mathlib.Core.Option.{none, some}
 use Prim.Native.Nat.{ℕ, zero, suc, _+_, _-_, _≤_, _<_}
 use native.Mathlib.Omega.{arith}
 use lib.Dec.{eqb, ltb, leb}
-use lib.ListN.{length, getD, set, take, length-set, length-map}
-use borrow.Author.Tests.{eqb-true, eqb-false, ne-eqb, lt-ltb, le-ltb, le-leb, ltb-true, ltb-false}
-use Rattle.message.specs.Message.{fitsMessage, slotsFor}
-use Rattle.minislot.specs.declared.Minislot.{Minislot}
+use lib.ListN.{length, getD, set, length-map}
+use borrow.Author.Tests.{lt-ltb, le-ltb, ltb-true, ltb-false}
 use Rattle.minislot.specs.declared.Feedback.{Feedback}
-use Rattle.minislot.specs.declared.Reading.{Reading}
-use Rattle.minislot.specs.Row.{readings, firstNumber, feedbacks}
-use Rattle.rules.specs.declared.Counters.{Counters}
 use Rattle.rules.specs.declared.Station.{Station}
-use Rattle.rules.specs.declared.StationSlot.{StationSlot}
-use Rattle.rules.specs.declared.StationOffered.{StationOffered}
-use Rattle.rules.specs.declared.Row.{Row}
-use Rattle.rules.specs.declared.Places.{Places}
 use Rattle.rules.specs.Lists.{each, onlyIf}
 use Rattle.rules.specs.Limits.{between}
-use Rattle.rules.specs.Hearing.{wordsOf, countsOf}
-use Rattle.rules.specs.Queueing.{queuedRow, placesAfter, immediateOf, passes}
-use Rattle.rules.specs.Turns.{Turn, turnOf}
-use Rattle.rules.specs.Listening.{hasRow}
-use Rattle.rules.specs.StationLimits.{Condition, Free, Fresh, Asked, Resolving, Urgent, Long, stationWithin}
-use Rattle.rules.specs.OwnHearing.{hearsItself}
-use Rattle.rules.specs.StationCalls.{isFree, withCondition, noStation, offerOf, slotOf}
-use Rattle.rules.specs.Soundness.{tableCounters, recordsWithin, soundTable}
-use Rattle.rules.specs.ChannelCalls.{Channel, ChannelResult, blankRow, hasStations, refused, positionOf, offeredAt, channelOfferOf, heardRow, slotsOf, newRow, DataSent, dataSent, loneIndex, loneSegment, successes, deliveredNow, slotAnswer, slotThrough, slotHeard, channelSlotOf, channelCall}
-use Rattle.rules.specs.Calls.{Start, index, Call, Offer, Slot, Answer, Refused, Taken, Went}
+use Rattle.rules.specs.StationLimits.{Condition, Free, Fresh, Asked, Resolving, Urgent, Long}
+use Rattle.rules.specs.StationCalls.{noStation}
+use Rattle.rules.specs.ChannelCalls.{Channel, ChannelResult, blankRow, positionOf, loneIndex, loneSegment, deliveredNow}
+use Rattle.rules.specs.Calls.{Start, index}
 use Rattle.rules.specs.Messages.{Message, Segment}
-use Rattle.rules.specs.Plain.{Plain, plainSettled, plainTurn, sent, stationFrom, inRange}
-use Rattle.rules.proofs.Views.{Sender, senderAt, eqb-self}
-use Rattle.rules.proofs.Clauses.{hearing, loneIndexOf, loneNumberOf, settle, asks, sendsBy, serves, requestSender}
+use Rattle.rules.specs.Plain.{Plain, plainTurn, sent, stationFrom, inRange}
+use Rattle.rules.proofs.Views.{Sender, senderAt}
+use Rattle.rules.proofs.Clauses.{hearing, loneIndexOf, loneNumberOf, serves}
 use Rattle.rules.proofs.ClauseLaws.{Placed}
-use Rattle.rules.proofs.Shared.{Table, TableResult, gather, collect, askedSender, askedRow, senderIf, tableRefuse, tableAccept, tableOffer, tableRow, tablePlaces, tableSuccess, tableWent, tableSends, tableAnswer, tableSlot, tableSettled, tableCall, tableCondition}
-use Rattle.rules.proofs.Relation.{lengths, Fits, Agrees, Same}
-use Rattle.rules.proofs.ServeViews.{asks-fits}
-use Rattle.rules.proofs.SlotStep.{and-both, settled-eq, turn-eq, segmentsSent, settled-fits, senders-eq}
-use Rattle.rules.proofs.CallStep.{is-free, picks-ok, station-below}
-use Rattle.rules.proofs.Requested.{wire-here, wire-far}
-use Rattle.rules.proofs.WireRows.{asRequest, leaves, minislotRow, length-row, take-row, row-cong, AsksOnce, Indexes, row-reads, heard-number, heard-feedbacks}
-use Rattle.rules.proofs.OwnHears.{hears-row}
-use Rattle.rules.proofs.Walking.{IsStation, AreStations, get-set, tableQueued, tableSettledBy, queued-is, success-is, slot-passes}
-use Rattle.rules.proofs.EmbodySlot.{asData, Through, AllThrough, walk-are, data-are, row-are}
+use Rattle.rules.proofs.Shared.{Table, TableResult, gather, askedSender, askedRow}
+use Rattle.rules.proofs.Relation.{Fits, Agrees}
+use Rattle.rules.proofs.WireRows.{minislotRow, AsksOnce, Indexes, feedbackRow}
+use Rattle.rules.proofs.Walking.{IsStation, AreStations}
+use Rattle.rules.proofs.EmbodySlot.{asData}
 
 -- the records and the wire are those of a table
 pub record Embodies (S : Start) (t : Table) (ch : Channel) : Type 0 where
@@ -149,3 +129,26 @@ pub station-at : (S : Start) (t : Table) (j : ℕ) (l : List Station) → AreSta
 station-at S t j [] a k h = absurd (omega arith)
 station-at S t j (s ∷ l) a zero h = rw (let e : j + 0 ≡ j = omega arith in e) (a .0)
 station-at S t j (s ∷ l) a (suc k) h = subst (λ (i : ℕ). IsStation S t i (getD l k noStation)) (omega arith) (station-at S t (suc j) l (a .1) k (omega arith))
+
+-- as many records as indexes
+pub same-length : (S : Start) (t : Table) (ch : Channel) → Embodies S t ch → length (ch .stations) ≡ length (S .indexes)
+same-length S t ch E = sym (length-map (ch .stations) (λ (s : Station). s .index)) ∙ ap length (E .indexes)
+
+-- the same test on both sides
+pub both : (S : Start) (b c : Bool) (x x′ : TableResult) (y y′ : ChannelResult) → b ≡ c → (b ≡ true → Embodied S x y) → (b ≡ false → Embodied S x′ y′) → Embodied S (cond b x x′) (cond c y y′)
+both S true c x x′ y y′ e f g = rw (← e) (f refl)
+both S false c x x′ y y′ e f g = rw (← e) (g refl)
+
+-- the indexes of the records are the start's
+pub names-are : (S : Start) (t : Table) (j : ℕ) (l : List Station) (x : List ℕ) → AreStations S t j l → length l ≡ length x → ((i : ℕ) → i < length x → getD x i 0 ≡ index S (j + i))
+    → map (λ (s : Station). s .index) l ≡ x
+names-are S t j [] [] a e h = refl
+names-are S t j [] (y ∷ x) a e h = absurd (omega arith)
+names-are S t j (s ∷ l) [] a e h = absurd (omega arith)
+names-are S t j (s ∷ l) (y ∷ x) a e h =
+    rw (a .0 .index ∙ (ap (index S) (let e : j ≡ j + 0 = omega arith in e) ∙ sym (h zero (omega arith))), names-are S t (suc j) l x (a .1) (omega arith) (λ i w. h (suc i) (omega arith) ∙ ap (index S) (omega arith)))
+
+pub feedback-is : (ix : ℕ → ℕ) (K : ℕ) (I : Indexes ix K) (condition : ℕ → Condition) (g : ℕ) (once : (j k : ℕ) → AsksOnce k (askedSender g j k (condition k))) (n j : ℕ)
+    → feedbackRow ix K I (λ j k. askedSender g j k (condition k)) once n j ≡ askedRow ix K condition g n j
+feedback-is ix K I condition g once zero j = refl
+feedback-is ix K I condition g once (suc n) j = ap (λ (l : List Feedback). hearing ix (gather (λ k. askedSender g j k (condition k)) K) ∷ l) (feedback-is ix K I condition g once n (suc j))

@@ -1,88 +1,57 @@
 -- Every call of the channel is the shared table's call: records, wire and answer. That the table is sound is a hypothesis here; proofs/SoundKept
 -- discharges it. Assumes nothing.
 use mathlib.Core.Path.{_≡_, refl, sym, ap, subst, _∙_}
-use mathlib.Core.Bool.{Bool, true, false, not, cond, _&&_, true≢false, false≢true}
-use mathlib.Core.List.{List, [], _∷_, _++_, map}
+use mathlib.Core.Bool.{Bool, true, false, cond, true≢false, false≢true}
+use mathlib.Core.List.{List, [], _∷_, map}
 use mathlib.Core.Logic.{_≢_}
-use mathlib.Core.Option.{Option, none, some}
+use mathlib.Core.Option.{none, some}
 use Prim.Native.Nat.{ℕ, zero, suc, _+_, _-_, _≤_, _<_}
 use native.Mathlib.Omega.{arith}
 use native.Mathlib.Nat.{zero-add}
-use lib.Dec.{eqb, ltb, leb}
+use lib.Dec.{eqb, ltb}
 use lib.ListN.{length, getD, set, take, length-set, length-map}
-use borrow.Author.Tests.{eqb-true, eqb-false, ne-eqb, le-leb, ltb-true}
+use borrow.Author.Tests.{eqb-true, ne-eqb, le-leb, ltb-true}
 use Rattle.message.specs.Message.{fitsMessage, slotsFor}
 use Rattle.minislot.specs.declared.Minislot.{Minislot}
 use Rattle.minislot.specs.declared.Feedback.{Feedback}
 use Rattle.minislot.specs.declared.Reading.the-variants.{Heard}
 use Rattle.minislot.specs.Row.{readings, firstNumber, feedbacks}
-use Rattle.rules.specs.declared.Counters.{Counters}
 use Rattle.rules.specs.declared.Station.{Station}
 use Rattle.rules.specs.declared.StationSlot.{StationSlot}
-use Rattle.rules.specs.declared.StationOffered.{StationOffered}
 use Rattle.rules.specs.declared.Row.{Row}
 use Rattle.rules.specs.declared.OfferAnswer.the-variants.{Taken as TakenOffer}
-use Rattle.rules.specs.declared.Places.{Places}
 use Rattle.rules.specs.Lists.{each}
 use Rattle.rules.specs.Limits.{between}
 use Rattle.rules.specs.Hearing.{wordsOf, countsOf}
-use Rattle.rules.specs.Queueing.{placesAfter, immediateOf, passes}
-use Rattle.rules.specs.Turns.{Turn, turnOf}
-use Rattle.rules.specs.Listening.{hasRow}
-use Rattle.rules.specs.StationLimits.{Condition, Free, Fresh, stationWithin}
+use Rattle.rules.specs.Queueing.{placesAfter, passes}
+use Rattle.rules.specs.Turns.{turnOf}
+use Rattle.rules.specs.StationLimits.{Free, Fresh, stationWithin}
 use Rattle.rules.specs.OwnHearing.{hearsItself}
 use Rattle.rules.specs.StationCalls.{isFree, withCondition, noStation, refusedOffer, offerOf}
 use Rattle.rules.specs.Soundness.{tableCounters, recordsWithin, soundTable}
-use Rattle.rules.specs.ChannelCalls.{Channel, ChannelResult, blankRow, hasStations, refused, positionOf, offerAnswer, offeredAt, channelOfferOf, heardRow, slotsOf, newRow, dataSent, loneIndex, loneSegment, successes, deliveredNow, slotAnswer, slotThrough, slotHeard, channelSlotOf, channelCall}
-use Rattle.rules.specs.Calls.{Start, index, Call, Offer, Slot, Answer, Refused, Taken, Went}
+use Rattle.rules.specs.ChannelCalls.{Channel, blankRow, hasStations, refused, positionOf, offeredAt, channelOfferOf, heardRow, slotsOf, newRow, dataSent, loneIndex, loneSegment, successes, deliveredNow, slotAnswer, slotThrough, slotHeard, channelSlotOf, channelCall}
+use Rattle.rules.specs.Calls.{Start, index, Call, Offer, Slot, Refused, Taken}
 use Rattle.rules.specs.Plain.{Plain, plainSettled, stationFrom, inRange}
 use Rattle.rules.proofs.Views.{Sender, eqb-self}
-use Rattle.rules.proofs.Clauses.{hearing, settle, asks, serves, requestSender}
-use Rattle.rules.proofs.Shared.{Table, TableResult, gather, askedSender, askedRow, senderIf, tableRefuse, tableAccept, tableOffer, tableRow, tablePlaces, tableSuccess, tableWent, tableSends, tableAnswer, tableSlot, tableSettled, tableCall, tableCondition}
+use Rattle.rules.proofs.Clauses.{asks, serves, requestSender}
+use Rattle.rules.proofs.Shared.{Table, gather, askedSender, senderIf, tableRefuse, tableAccept, tableOffer, tableRow, tablePlaces, tableSuccess, tableWent, tableSends, tableAnswer, tableSlot, tableSettled, tableCall, tableCondition}
 use Rattle.rules.proofs.Relation.{Fits, Same}
 use Rattle.rules.proofs.ServeViews.{asks-fits}
-use Rattle.rules.proofs.SlotStep.{and-both, settled-eq, turn-eq, segmentsSent, settled-fits, senders-eq}
+use Rattle.rules.proofs.SlotStep.{and-both, went-cong, settled-eq, turn-eq, settled-fits, senders-eq}
 use Rattle.rules.proofs.CallStep.{is-free, picks-ok}
 use Rattle.rules.proofs.Requested.{wire-here, wire-far}
-use Rattle.rules.proofs.WireRows.{AsksOnce, minislotRow, length-row, take-row, row-cong, Indexes, feedbackRow, row-reads, heard-number, heard-feedbacks}
+use Rattle.rules.proofs.WireRows.{AsksOnce, minislotRow, length-row, take-row, row-cong, row-reads, heard-number, heard-feedbacks}
 use Rattle.rules.proofs.OwnHears.{hears-row}
 use Rattle.rules.proofs.Walking.{IsStation, AreStations, get-set, tableQueued, tableSettledBy, queued-is, success-is, slot-passes}
 use Rattle.rules.proofs.EmbodySlot.{asData, Through, AllThrough, walk-are, data-are, row-are}
+use Rattle.rules.proofs.WalkLaws.{slots-length}
 use Rattle.rules.proofs.SoundTests.{sound-tests}
-use Rattle.rules.proofs.Embody.{Embodies, Embodied, GoodStart, fits-placed, asks-once, set-self, positionIn, position-map, position-eq, picks-same, lone-index-is, lone-segment-is, one-served, station-at}
-
-both : (S : Start) (b c : Bool) (x x′ : TableResult) (y y′ : ChannelResult) → b ≡ c → (b ≡ true → Embodied S x y) → (b ≡ false → Embodied S x′ y′) → Embodied S (cond b x x′) (cond c y y′)
-both S true c x x′ y y′ e f g = rw (← e) (f refl)
-both S false c x x′ y y′ e f g = rw (← e) (g refl)
-
--- the indexes of the records are the start's
-names-are : (S : Start) (t : Table) (j : ℕ) (l : List Station) (x : List ℕ) → AreStations S t j l → length l ≡ length x → ((i : ℕ) → i < length x → getD x i 0 ≡ index S (j + i))
-    → map (λ (s : Station). s .index) l ≡ x
-names-are S t j [] [] a e h = refl
-names-are S t j [] (y ∷ x) a e h = absurd (omega arith)
-names-are S t j (s ∷ l) [] a e h = absurd (omega arith)
-names-are S t j (s ∷ l) (y ∷ x) a e h =
-    rw (a .0 .index ∙ (ap (index S) (let e : j ≡ j + 0 = omega arith in e) ∙ sym (h zero (omega arith))), names-are S t (suc j) l x (a .1) (omega arith) (λ i w. h (suc i) (omega arith) ∙ ap (index S) (omega arith)))
-
-length-slots : (words counts : List ℕ) (l : List Station) (picks : List ℕ) → length picks ≡ length l → length (slotsOf words counts l picks) ≡ length l
-length-slots words counts [] picks e = refl
-length-slots words counts (s ∷ l) [] e = absurd (omega arith)
-length-slots words counts (s ∷ l) (x ∷ picks) e = ap suc (length-slots words counts l picks (omega arith))
-
-feedback-is : (ix : ℕ → ℕ) (K : ℕ) (I : Indexes ix K) (condition : ℕ → Condition) (g : ℕ) (once : (j k : ℕ) → AsksOnce k (askedSender g j k (condition k))) (n j : ℕ)
-    → feedbackRow ix K I (λ j k. askedSender g j k (condition k)) once n j ≡ askedRow ix K condition g n j
-feedback-is ix K I condition g once zero j = refl
-feedback-is ix K I condition g once (suc n) j = ap (λ (l : List Feedback). hearing ix (gather (λ k. askedSender g j k (condition k)) K) ∷ l) (feedback-is ix K I condition g once n (suc j))
-
-went-cong : {t t′ : Turn} {n n′ i i′ s s′ d d′ : ℕ} → t ≡ t′ → n ≡ n′ → i ≡ i′ → s ≡ s′ → d ≡ d′ → Went t n i s d ≡ Went t′ n′ i′ s′ d′
-went-cong a b c d e = cc
+use Rattle.rules.proofs.SoundMeans.{all-at}
+use Rattle.rules.proofs.Embody.{Embodies, Embodied, GoodStart, fits-placed, asks-once, set-self, positionIn, position-map, position-eq, picks-same, lone-index-is, lone-segment-is, one-served, both, names-are, feedback-is, station-at, same-length}
 
 module _ (S : Start) (G : GoodStart S) (p : Plain) (t : Table) (R : Same S p t) (ch : Channel) (E : Embodies S t ch) (sound : soundTable (ch .stations) (ch .wire) ≡ true) where
   K : ℕ
   K = length (S .indexes)
-
-  same-length : length (ch .stations) ≡ length (S .indexes)
-  same-length = sym (length-map (ch .stations) (λ (s : Station). s .index)) ∙ ap length (E .indexes)
 
   gl : 1 ≤ t .next
   gl = rw (R .next) (R .low)
@@ -91,10 +60,10 @@ module _ (S : Start) (G : GoodStart S) (p : Plain) (t : Table) (R : Same S p t) 
   gh = omega (arith, R .next, R .high, G .n-high)
 
   is-first : IsStation S t 0 (getD (ch .stations) 0 noStation)
-  is-first = station-at S t 0 (ch .stations) (E .stations) 0 (omega (arith, same-length, G .some))
+  is-first = station-at S t 0 (ch .stations) (E .stations) 0 (omega (arith, (same-length S t ch E), G .some))
 
   here : hasStations (ch .stations) ≡ true
-  here = rw (le-leb 1 (length (ch .stations)) (omega (arith, same-length, G .some)), le-leb (length (ch .stations)) 64 (omega (arith, same-length, G .few)))
+  here = rw (le-leb 1 (length (ch .stations)) (omega (arith, (same-length S t ch E), G .some)), le-leb (length (ch .stations)) 64 (omega (arith, (same-length S t ch E), G .few)))
 
   within-all : each stationWithin (ch .stations) ≡ true
   unfolding recordsWithin
@@ -136,6 +105,17 @@ module _ (S : Start) (G : GoodStart S) (p : Plain) (t : Table) (R : Same S p t) 
       rw heard-row (ap (placesAfter (tableCounters (ch .stations))) row-feedbacks)
       ∙ queued-is S t gl gh (tableRow S t) 0 (getD (ch .stations) 0 noStation) is-first
 
+  -- ---- each station hears itself as it must
+
+  hears-own : (k : ℕ) (s : Station) → k < length (S .indexes) → IsStation S t k s → hearsItself s (wordsOf wireRow) (tableRow S t) ≡ true
+  unfolding hearsItself
+  hears-own k s h a =
+      rw (a .index, a .next, a .condition) (hears-row (index S) (length (S .indexes)) k (G .indexes) h (t .condition) (R .outside) (t .next) (t .condition k) refl (S .m) 1 (omega arith))
+
+  pub own-heard : (k : ℕ) (s : Station) → k < length (S .indexes) → IsStation S t k s
+      → hearsItself s (wordsOf (heardRow ch)) (feedbacks (readings (wordsOf (heardRow ch)) (countsOf (heardRow ch)))) ≡ true
+  own-heard k s h a = rw heard-row (ap (hearsItself s (wordsOf wireRow)) row-feedbacks ∙ hears-own k s h a)
+
   -- ---- each station's slot goes through
 
   module _ (pick : ℕ → ℕ) (jl : (k : ℕ) → 1 ≤ pick k) (jh : (k : ℕ) → pick k ≤ S .m) (e7 : passes (tableSettled S t) ≡ false) where
@@ -149,7 +129,7 @@ module _ (S : Start) (G : GoodStart S) (p : Plain) (t : Table) (R : Same S p t) 
               (rw (a .minislots, le-leb 1 (pick k) (jl k), le-leb (pick k) (S .m) (jh k)))
               row-number row-feedbacks
               (rw (queued-is S t gl gh (tableRow S t) k s a) e7)
-              (rw (a .index, a .next, a .condition) (hears-row (index S) (length (S .indexes)) k (G .indexes) h (t .condition) (R .outside) (t .next) (t .condition k) refl (S .m) 1 (omega arith)));
+              (hears-own k s h a);
           before = fits-placed S (R .message k) (t .condition k) (R .agrees k .fits);
           settled = fits-placed S (R .message k) (tableSettledBy t (tableRow S t) k) fit;
           asked =
@@ -177,7 +157,7 @@ module _ (S : Start) (G : GoodStart S) (p : Plain) (t : Table) (R : Same S p t) 
       results = slotsOf (wordsOf wireRow) (countsOf wireRow) (ch .stations) picks
 
       through : AllThrough S t gl gh (wordsOf wireRow) (countsOf wireRow) (tableRow S t) pick 0 (ch .stations)
-      through = all-through 0 (ch .stations) (omega (arith, same-length)) (E .stations) within-all
+      through = all-through 0 (ch .stations) (omega (arith, (same-length S t ch E))) (E .stations) within-all
 
       after-are : AreStations S (tableWent S pick t (tableRow S t) (tableSuccess t (tableRow S t)) (tableSettled S t)) 0 (map (λ (r : StationSlot). r .station) results)
       after-are = walk-are S t gl gh (wordsOf wireRow) (countsOf wireRow) (tableRow S t) pick 0 (ch .stations) picks el ep (E .stations) through
@@ -185,12 +165,12 @@ module _ (S : Start) (G : GoodStart S) (p : Plain) (t : Table) (R : Same S p t) 
       after-names : map (λ (s : Station). s .index) (map (λ (r : StationSlot). r .station) results) ≡ S .indexes
       after-names =
           names-are S (tableWent S pick t (tableRow S t) (tableSuccess t (tableRow S t)) (tableSettled S t)) 0 (map (λ (r : StationSlot). r .station) results) (S .indexes) after-are
-          (length-map results (λ (r : StationSlot). r .station) ∙ length-slots (wordsOf wireRow) (countsOf wireRow) (ch .stations) picks el ∙ same-length)
+          (length-map results (λ (r : StationSlot). r .station) ∙ slots-length (wordsOf wireRow) (countsOf wireRow) (ch .stations) picks el ∙ (same-length S t ch E))
           (λ i w. ap (index S) (sym (zero-add i)))
 
       new-row : newRow results 8 1
           ≡ minislotRow (index S) (length (S .indexes)) (λ i k. requestSender (tableSettled S t .resolution) (t .next) (pick k) i k (tableSettledBy t (tableRow S t) k)) 8 1
-      new-row = row-are S t gl gh (wordsOf wireRow) (countsOf wireRow) (tableRow S t) pick (ch .stations) picks el ep (E .stations) through 8 1 (omega arith) ∙ rw same-length
+      new-row = row-are S t gl gh (wordsOf wireRow) (countsOf wireRow) (tableRow S t) pick (ch .stations) picks el ep (E .stations) through 8 1 (omega arith) ∙ rw (same-length S t ch E)
 
       after-wire : (g : ℕ) → 1 ≤ g → g ≤ 8
           → getD (set (ch .wire) (tableCounters (ch .stations) .next - 1) (record { minislots = newRow results 8 1 })) (g - 1) blankRow
@@ -217,7 +197,7 @@ module _ (S : Start) (G : GoodStart S) (p : Plain) (t : Table) (R : Same S p t) 
       senders = gather (λ k. senderIf k (tableSends t (tableRow S t) (tableSuccess t (tableRow S t)) (tableSettled S t) k)) (length (S .indexes))
 
       data-senders : dataSent results ≡ map (asData (index S)) senders
-      data-senders = data-are S t gl gh (wordsOf wireRow) (countsOf wireRow) (tableRow S t) pick 0 (ch .stations) picks el ep (E .stations) through ∙ rw same-length
+      data-senders = data-are S t gl gh (wordsOf wireRow) (countsOf wireRow) (tableRow S t) pick 0 (ch .stations) picks el ep (E .stations) through ∙ rw (same-length S t ch E)
 
       count-senders : length (dataSent results) ≡ length senders
       count-senders = ap length data-senders ∙ length-map senders (asData (index S))
@@ -252,10 +232,10 @@ module _ (S : Start) (G : GoodStart S) (p : Plain) (t : Table) (R : Same S p t) 
   unfolding channelSlotOf
   slot-call picks =
       rw (here, sound)
-      (both S (eqb (length picks) (length (S .indexes))) (eqb (length picks) (length (ch .stations))) _ _ _ _ (ap (eqb (length picks)) (sym same-length))
+      (both S (eqb (length picks) (length (S .indexes))) (eqb (length picks) (length (ch .stations))) _ _ _ _ (ap (eqb (length picks)) (sym (same-length S t ch E)))
       (λ a. both S (inRange (S .m) picks) (each (λ (pick : ℕ). between 1 pick (tableCounters (ch .stations) .minislots)) picks) _ _ _ _
       (rw (is-first .minislots) (sym (picks-same (S .m) picks)))
-      (λ b. goes picks (eqb-true (length picks) (length (S .indexes)) a ∙ sym same-length) b)
+      (λ b. goes picks (eqb-true (length picks) (length (S .indexes)) a ∙ sym (same-length S t ch E)) b)
       (λ b. stay-put 11))
       (λ a. stay-put 17))
     where
@@ -274,11 +254,6 @@ module _ (S : Start) (G : GoodStart S) (p : Plain) (t : Table) (R : Same S p t) 
           (λ i h. ap (λ (x : ℕ). getD picks x 1) (sym (zero-add i))))))
 
   -- an offer: station k
-  each-at : (l : List Station) (k : ℕ) → each stationWithin l ≡ true → k < length l → stationWithin (getD l k noStation) ≡ true
-  each-at [] k e h = absurd (omega arith)
-  each-at (s ∷ l) zero e h = and-both (stationWithin s) (each stationWithin l) e .0
-  each-at (s ∷ l) (suc k) e h = each-at l k (and-both (stationWithin s) (each stationWithin l) e .1) (omega arith)
-
   module _ (k : ℕ) (h : k < length (ch .stations)) where
     abbrev it : Station
     it = getD (ch .stations) k noStation
@@ -369,7 +344,7 @@ module _ (S : Start) (G : GoodStart S) (p : Plain) (t : Table) (R : Same S p t) 
     offer-at : (bytes : ℕ) → Embodied S (tableOffer t bytes (some k)) (offeredAt ch k (offerOf it bytes))
     unfolding offerOf
     offer-at bytes =
-        rw (each-at (ch .stations) k within-all h)
+        rw (all-at stationWithin noStation (ch .stations) within-all k h)
         (go (isFree (t .condition k)) (isFree (it .condition)) refl (ap isFree (sym (is-it .condition))) (fitsMessage bytes))
       where
         go : (b c : Bool) → isFree (t .condition k) ≡ b → isFree (t .condition k) ≡ c → (d : Bool)

@@ -1,21 +1,18 @@
 -- A slot of the channel beside the shared table's: each station's slot goes through, the records after are the table's, the new row is what they request,
 -- and the data senders are the table's. Assumes nothing.
 use mathlib.Core.Path.{_≡_, refl, sym, ap, subst, _∙_}
-use mathlib.Core.Bool.{Bool, true, false, cond, _&&_}
-use mathlib.Core.List.{List, [], _∷_, _++_, map}
+use mathlib.Core.Bool.{Bool, true, false, _&&_}
+use mathlib.Core.List.{List, [], _∷_, map}
 use Prim.Native.Nat.{ℕ, zero, suc, _+_, _-_, _≤_, _<_}
 use native.Mathlib.Omega.{arith}
-use lib.Dec.{eqb, ltb, leb}
+use lib.Dec.{eqb, ltb}
 use lib.ListN.{length, getD}
 use borrow.Author.Tests.{ne-eqb, lt-ltb}
-use Rattle.minislot.specs.declared.Minislot.{Minislot}
 use Rattle.minislot.specs.declared.Feedback.{Feedback}
-use Rattle.minislot.specs.Together.{Request, carries, together}
 use Rattle.rules.specs.declared.Station.{Station}
 use Rattle.rules.specs.declared.StationSlot.{StationSlot}
 use Rattle.rules.specs.declared.SlotAnswer.the-variants.{Went as WentSlot}
-use Rattle.rules.specs.declared.Places.{Places}
-use Rattle.rules.specs.Lists.{onlyIf, gatherOf}
+use Rattle.rules.specs.Lists.{onlyIf}
 use Rattle.rules.specs.Queueing.{placesAfter}
 use Rattle.rules.specs.Turns.{turnOf}
 use Rattle.rules.specs.StationLimits.{Condition, Free, Fresh, Asked, Resolving, Urgent, Long}
@@ -24,10 +21,11 @@ use Rattle.rules.specs.StationCalls.{requestMinislot, requesting, segmen
 use Rattle.rules.specs.ChannelCalls.{slotsOf, requestIn, requestsIn, newRow, DataSent, dataIn, dataSent}
 use Rattle.rules.specs.Calls.{Start, index}
 use Rattle.rules.proofs.Views.{Sender, senderAt}
-use Rattle.rules.proofs.Clauses.{settle, asks, falls, front, requestSender}
+use Rattle.rules.proofs.Clauses.{asks, falls, front, requestSender}
 use Rattle.rules.proofs.ClauseLaws.{Placed}
-use Rattle.rules.proofs.Shared.{Table, collect, gather, senderIf, tablePlaces, tableSuccess, tableCondition, tableWent, tableSends}
-use Rattle.rules.proofs.WireRows.{asRequest, leaves, minislotRow}
+use Rattle.rules.proofs.Shared.{Table, collect, senderIf, tableSuccess, tableWent, tableSends}
+use Rattle.rules.proofs.WireRows.{asRequest, minislotRow}
+use Rattle.rules.proofs.TestLaws.{map-append}
 use Rattle.rules.proofs.Walking.{IsStation, AreStations, tableQueued, tableSettledBy, queued-is, settled-is, sent-is, station-is}
 
 -- ---- one station's request and data, by clauses
@@ -66,10 +64,6 @@ asData ix s = record { index = ix (s .position); segment = s .value }
 data-is : (ix : ℕ → ℕ) (k v : ℕ) → onlyIf (ltb 0 v) (record { index = ix k; segment = v } ∷ []) ≡ map (asData ix) (senderIf k v)
 data-is ix k zero = refl
 data-is ix k (suc v) = rw (lt-ltb 0 (suc v) (omega arith))
-
-pub map-append {ℓ κ} : {A : Type ℓ} {B : Type κ} (f : A → B) (a b : List A) → map f (a ++ b) ≡ map f a ++ map f b
-map-append f [] b = refl
-map-append {B = B} f (x ∷ a) b = ap (λ (l : List B). f x ∷ l) (map-append f a b)
 
 -- ---- all stations
 

@@ -1,20 +1,16 @@
 -- Steps 4 and 5: the first entry of the urgent or else of the long queue leaves, seen by one station. Assumes nothing.
-use mathlib.Core.Path.{_≡_, refl, sym, ap, subst, _∙_}
-use mathlib.Core.Bool.{Bool, true, false}
-use mathlib.Core.List.{List, [], _∷_, _++_, map}
-use Prim.Native.Nat.{ℕ, zero, suc, _+_, _-_, _≤_, _<_}
+use mathlib.Core.Path.{_≡_, refl, ap, _∙_}
+use mathlib.Core.List.{List, [], _∷_}
+use Prim.Native.Nat.{ℕ, zero, suc, _-_, _≤_}
 use native.Mathlib.Omega.{arith}
-use lib.ListN.{length, length-append}
-use Rattle.rules.proofs.Clauses.{falls, lower, shorter}
+use lib.ListN.{length}
+use Rattle.rules.proofs.Clauses.{falls}
 use Rattle.rules.proofs.Relation.{urgentOf, longOf}
-use Rattle.rules.proofs.Views.{eqb-self, seen, atFirst, shifted, atPlace, run}
-use Rattle.rules.specs.Lists.{keepIf, onlyIf}
-use Rattle.rules.specs.Messages.{Message, Segment, of, segment, segmentsFrom}
+use Rattle.rules.proofs.Views.{seen, run}
+use Rattle.rules.specs.Messages.{Message, Segment}
 use Rattle.rules.specs.Plain.{rest, longLeft}
 use Rattle.rules.specs.Positions.{one, part}
 use Rattle.rules.specs.StationLimits.{Condition, Free, Fresh, Asked, Resolving, Urgent, Long}
-use borrow.Author.Tests.{eqb-true, ne-eqb}
-use lib.Dec.{eqb}
 
 -- the stretch is no longer than its message
 abbrev pub Left : Condition → Type 0

@@ -1,32 +1,28 @@
 -- What follows of the relation in every state: the messages, the senders, the totals, the wire, in the words of the statement. Assumes nothing.
-use mathlib.Core.Path.{_≡_, refl, sym, ap, subst, _∙_}
-use mathlib.Core.Bool.{Bool, true, false, not, cond, _&&_}
+use mathlib.Core.Path.{_≡_, refl, ap, subst, _∙_}
+use mathlib.Core.Bool.{Bool, true, false, cond}
 use mathlib.Core.List.{List, [], _∷_, _++_, map, List·Memᴰ, List·Memᴰ·head, List·Memᴰ·tail, List·Memᴰ·cases-cons, List·Memᴰ·not-nil}
-use mathlib.Core.Logic.{_≢_, _⊎_, inl, inr, ⊎-elim, by-cases}
+use mathlib.Core.Logic.{_⊎_, ⊎-elim, by-cases}
 use mathlib.Core.Option.{Option, none, some}
 use Prim.Native.Nat.{ℕ, zero, suc, _+_, _-_, _≤_, _<_}
 use native.Mathlib.Omega.{arith}
 use native.Mathlib.Decide.{decLt}
 use lib.Dec.{eqb}
-use lib.ListN.{length, getD}
-use borrow.Author.Tests.{eqb-true, ne-eqb}
+use lib.ListN.{length, getD, length-append}
 use Rattle.message.specs.Message.{fitsMessage, slotsFor}
-use Rattle.minislot.specs.declared.Minislot.{Minislot}
-use Rattle.minislot.specs.Together.{Request, carries, silent, joined, together}
+use Rattle.minislot.specs.Together.{carries, silent, joined, together}
 use Rattle.minislot.proofs.Senders.{joined-comm, joined-assoc, joined-silent}
 use Rattle.rules.specs.declared.Station.{Station}
-use Rattle.rules.specs.declared.Places.{Places}
 use Rattle.rules.specs.Lists.{sumOf, countOf, keepIf}
 use Rattle.rules.specs.Turns.{Turn}
-use Rattle.rules.specs.StationLimits.{Condition, Long}
 use Rattle.rules.specs.Serving.{waiting}
-use Rattle.rules.specs.Calls.{Start, index, Call, Offer, Slot, Answer, Refused, Taken, Went}
-use Rattle.rules.specs.Messages.{Message, Segment, of}
-use Rattle.rules.specs.Plain.{Plain, PlainResult, Queues, plainSettled, overflows, sent, plainCall, plainSlot, plainOffer, plainAnswers, plainRefuse, plainAccept, waits, stationFrom, inRange}
-use Rattle.rules.specs.Demand3.{requestOf, noMessage, takenAt, longAt, isRefusal, SendersAre}
-use Rattle.rules.proofs.Views.{Sender, senderAt, requestFrom, dataFrom, seen, eqb-self}
+use Rattle.rules.specs.Calls.{Start, index, Call, Offer, Slot, Went}
+use Rattle.rules.specs.Messages.{Message, Segment, segment, of}
+use Rattle.rules.specs.Plain.{Plain, PlainResult, Queues, plainSettled, overflows, sent, plainCall, plainSlot, plainOffer, plainAnswers, plainRefuse, plainAccept, waits, stationFrom, inRange, joinAlone, joinMinislot, joinRow, plainSuccess, queuesOf, served, slotSum, plainAfter}
+use Rattle.rules.specs.Demand3.{requestOf, noMessage, isRefusal, takenIn, deliveredIn, SendersAre}
+use Rattle.rules.proofs.Views.{Sender, requestFrom, dataFrom, seen, eqb-self}
 use Rattle.rules.proofs.Shared.{Table, gather, askedSender}
-use Rattle.rules.proofs.Relation.{lengths, Same, Numbered, Fits}
+use Rattle.rules.proofs.Relation.{lengths, Same, Numbered}
 use Rattle.rules.proofs.Census.{total}
 use Rattle.rules.proofs.SlotStep.{segmentsSent}
 use Rattle.rules.proofs.Mixing.{blend, wire-blend}
@@ -150,3 +146,68 @@ module _ (x : ℕ) (e7 : eqb 7 x ≡ false) (e9 : eqb 9 x ≡ false) (e10 : eqb 
   pub never-comes : (S : Start) (p : Plain) (calls : List Call) → countOf (isRefusal x) (plainAnswers S p calls) ≡ 0
   never-comes S p [] = refl
   never-comes S p (c ∷ l) = rw (never-call S p c) (omega (arith, never-comes S (plainCall S p c .state) l))
+
+-- ---- the answers' own sums
+
+sum-append : (a b : List Message) → slotSum (a ++ b) ≡ slotSum a + slotSum b
+sum-append [] b = omega arith
+sum-append (m ∷ a) b = omega (arith, sum-append a b)
+
+-- the history only grows
+alone-longer : (b o : Bool) (m : Message) (q : Queues) → length (q .history) ≤ length (joinAlone b o m q .history)
+alone-longer true true m q = omega (arith, length-append (q .history) (segment m 1 ∷ []))
+alone-longer false true m q = omega arith
+alone-longer b false m q = omega arith
+
+row-longer : (b : Bool) (row : List (List Message)) (q : Queues) → length (q .history) ≤ length (joinRow b row q .history)
+row-longer b [] q = omega arith
+row-longer b ([] ∷ row) q = row-longer b row q
+row-longer b ((m ∷ []) ∷ row) q = omega (arith, row-longer b row (joinMinislot b (m ∷ []) q), alone-longer b (eqb (m .slots) 1) m q)
+row-longer b ((m ∷ n ∷ l) ∷ row) q = row-longer b row (joinMinislot b (m ∷ n ∷ l) q)
+
+-- one call
+pub record Booked (p : Plain) (r : PlainResult) : Type 0 where
+  pub taken : slotSum (r .state .taken) ≡ slotSum (p .taken) + takenIn (r .answer)
+  pub delivered : length (r .state .history) ≡ length (p .history) + deliveredIn (r .answer)
+
+booked-refused : (p : Plain) (n : ℕ) → Booked p (plainRefuse p n)
+booked-refused p n = record { taken = omega arith; delivered = omega arith }
+
+booked-if : (p : Plain) (b : Bool) (x y : PlainResult) → Booked p x → Booked p y → Booked p (cond b x y)
+booked-if p true x y a c = a
+booked-if p false x y a c = c
+
+booked-accept : (p : Plain) (m : Message) → Booked p (plainAccept p m)
+booked-accept p m = record { taken = sum-append (p .taken) (m ∷ []) ∙ omega arith; delivered = omega arith }
+
+booked-slot : (S : Start) (pick : ℕ → ℕ) (p : Plain) → Booked p (plainSlot S pick p)
+booked-slot S pick p =
+    record {
+      taken = omega arith;
+      delivered =
+          omega (
+            arith,
+            row-longer (plainSuccess (p .group (p .next))) (p .group (p .next) .asking) (queuesOf p (p .group (p .next))),
+            length-append (plainSettled p .history) (served (plainSettled p .urgent) (plainSettled p .long)),
+          );
+    }
+
+booked-call : (S : Start) (p : Plain) (c : Call) → Booked p (plainCall S p c)
+booked-call S p (Offer i bytes) = at (stationFrom 0 (S .indexes) i)
+  where
+    at : (o : Option ℕ) → Booked p (plainOffer p bytes o)
+    at none = booked-refused p 16
+    at (some k) = booked-if p (waits p k) _ _ (booked-refused p 9) (booked-if p (fitsMessage bytes) _ _ (booked-accept p (record { serial = length (p .taken); station = k; slots = slotsFor bytes })) (booked-refused p 10))
+booked-call S p (Slot picks) =
+    booked-if p (eqb (length picks) (length (S .indexes))) _ _
+    (booked-if p (inRange (S .m) picks) _ _ (booked-if p (overflows (plainSettled p)) _ _ (booked-refused p 7) (booked-slot S (λ k. getD picks k 1) p)) (booked-refused p 11))
+    (booked-refused p 17)
+
+-- every list
+pub books-taken : (S : Start) (calls : List Call) (p : Plain) → slotSum (plainAfter S p calls .taken) ≡ slotSum (p .taken) + sumOf takenIn (plainAnswers S p calls)
+books-taken S [] p = omega arith
+books-taken S (c ∷ l) p = omega (arith, books-taken S l (plainCall S p c .state), booked-call S p c .taken)
+
+pub books-delivered : (S : Start) (calls : List Call) (p : Plain) → length (plainAfter S p calls .history) ≡ length (p .history) + sumOf deliveredIn (plainAnswers S p calls)
+books-delivered S [] p = omega arith
+books-delivered S (c ∷ l) p = omega (arith, books-delivered S l (plainCall S p c .state), booked-call S p c .delivered)

@@ -1,5 +1,5 @@
 -- The history, message by message: the deliveries of each message taken are its segments 1 to d in order. Assumes nothing.
-use mathlib.Core.Path.{_≡_, refl, sym, ap, subst, _∙_}
+use mathlib.Core.Path.{_≡_, refl, sym, ap, _∙_}
 use mathlib.Core.Bool.{Bool, true, false}
 use mathlib.Core.List.{List, [], _∷_, _++_, List·Memᴰ, List·Memᴰ·cases-cons, List·Memᴰ·not-nil, append-nil}
 use mathlib.Core.Logic.{_≢_, _⊎_, inl, inr, ⊎-elim}
@@ -9,16 +9,16 @@ use lib.ListN.{length, length-append}
 use Rattle.rules.proofs.QueueViews.{length-segments}
 use Rattle.rules.proofs.Landing.{ofBy-append}
 use Rattle.rules.proofs.CallStep.{length-rem}
-use Rattle.rules.proofs.Relation.{Fits, Agrees, Same, Numbered, whole, remaining}
+use Rattle.rules.proofs.Relation.{Fits, Same, Numbered, whole, remaining}
 use Rattle.rules.proofs.Shared.{Table}
 use Rattle.rules.proofs.Views.{eqb-self}
 use Rattle.rules.specs.Calls.{Start}
 use Rattle.rules.specs.Lists.{keepIf, onlyIf}
-use Rattle.rules.specs.Messages.{deliveredFor, Message, Segment, of, ofBy, segmentsFrom, segment, deliveredOf}
+use Rattle.rules.specs.Messages.{deliveredFor, Message, Segment, of, segmentsFrom, segment, deliveredOf}
 use Rattle.rules.specs.Plain.{Plain}
 use Rattle.rules.specs.Serving.{waiting}
 use Rattle.rules.specs.StationLimits.{Condition, Free, Fresh, Asked, Resolving, Urgent, Long}
-use borrow.Author.Tests.{eqb-true, ne-eqb, eqb-false}
+use borrow.Author.Tests.{ne-eqb, eqb-false}
 use lib.Dec.{eqb}
 
 -- a first part of a run is a run

@@ -3,26 +3,24 @@
 use mathlib.Core.Path.{_≡_, refl, sym, ap, subst, _∙_}
 use mathlib.Core.Bool.{Bool, true, false}
 use mathlib.Core.List.{List, [], _∷_, _++_, map, append-nil}
-use Prim.Native.Nat.{ℕ, zero, suc, _+_, _-_, _≤_, _<_}
+use Prim.Native.Nat.{ℕ, zero, suc, _+_, _-_, _≤_}
 use native.Mathlib.Omega.{arith}
 use native.Mathlib.Nat.{sub-self}
 use native.Mathlib.Numerals.{add-one}
 use lib.ListN.{length, length-append}
 use mathlib.Core.Logic.{_≢_}
-use Rattle.rules.proofs.QueueViews.{seen-more, seen-behind, seen-one, shifted-cong, shifted-at, first-nil, shifted-nil, run-own, run-other, length-segments, lone-own, lone-other}
-use Rattle.minislot.specs.declared.Feedback.{Feedback}
-use Rattle.minislot.specs.declared.Feedback.the-variants.{Empty, Single, Collide}
+use Rattle.rules.proofs.QueueViews.{seen-more, seen-behind, seen-one, shifted-cong, shifted-at, first-nil, run-own, run-other, length-segments, lone-own, lone-other}
 use Rattle.rules.proofs.Clauses.{read, after}
-use Rattle.rules.proofs.Relation.{lengths, Shows, urgentOf, longOf, resolvingOf}
-use Rattle.rules.proofs.Views.{eqb-self, seen, atFirst, shifted, atPlace, run}
+use Rattle.rules.proofs.Relation.{lengths, Shows}
+use Rattle.rules.proofs.Views.{eqb-self, seen, atFirst, shifted}
 use Rattle.rules.specs.Calls.{Start}
-use Rattle.rules.specs.Lists.{keepIf, onlyIf}
+use Rattle.rules.specs.Lists.{keepIf}
 use Rattle.rules.specs.Messages.{Message, Segment, ofBy, of, segment, segmentsFrom, deliveredOf}
 use Rattle.rules.specs.Plain.{Queues, joinAlone, joinMinislot, joinRow}
 use Rattle.rules.specs.Positions.{one, part}
 use Rattle.rules.specs.Queueing.{queued, queuedRow, queuedSingle}
 use Rattle.rules.specs.Settling.{standsAlone, standsAfter}
-use Rattle.rules.specs.StationLimits.{Condition, Free, Fresh, Asked, Resolving, Urgent, Long}
+use Rattle.rules.specs.StationLimits.{Condition, Asked, Urgent}
 use Rattle.rules.specs.declared.Places.{Places}
 use borrow.Author.Tests.{eqb-true, eqb-false}
 use lib.Dec.{eqb}

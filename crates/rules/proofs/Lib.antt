@@ -1,5 +1,7 @@
 -- Laws of the rules.
 pub mod QueueingLaws
+pub mod LimitLaws
+pub mod TestLaws
 -- DEMAND 3, from the lists up
 pub mod Views
 pub mod Clauses
@@ -39,7 +41,8 @@ pub mod Starts
 pub mod Following
 pub mod Theorem
 pub mod Worked
-pub mod LimitLaws
+pub mod Transmission
+pub mod WalkLaws
 pub mod ListeningLaws
 pub mod ChangesHold
 pub mod EdgesHold

@@ -1,29 +1,28 @@
 -- DEMAND 3 over the model: after every list of calls the table is what the plain channel shows, and every answer was the plain channel's. And the ledger.
 -- Assumes nothing.
-use mathlib.Core.Path.{_≡_, refl, sym, ap, subst, _∙_}
+use mathlib.Core.Path.{_≡_, refl, sym, ap, _∙_}
 use mathlib.Core.Bool.{Bool, true, false}
 use mathlib.Core.List.{List, [], _∷_, _++_, map, append-nil}
 use Prim.Native.Nat.{ℕ, zero, suc, _+_, _-_, _≤_, _<_}
 use native.Mathlib.Omega.{arith}
-use native.Mathlib.Nat.{zero-add, suc-add}
-use lib.ListN.{length, length-append}
+use lib.ListN.{length}
+use Rattle.rules.proofs.QueueViews.{shifted-plus}
 use Rattle.rules.proofs.Landing.{ofBy-append}
-use Rattle.rules.proofs.Census.{total, total-cong, length-total}
+use Rattle.rules.proofs.Census.{total, total-cong, total-add, length-total}
 use Rattle.rules.proofs.AskedRows.{row-eq}
-use Rattle.rules.proofs.CallStep.{call-same, ledger, length-whole, length-rem}
+use Rattle.rules.proofs.CallStep.{call-same, ledger, length-whole}
 use Rattle.rules.proofs.Searching.{condition-eq}
-use Rattle.minislot.specs.declared.Feedback.{Feedback}
 use Rattle.rules.proofs.Clauses.{read}
-use Rattle.rules.proofs.Relation.{Agrees, Same, Fits, whole, remaining}
-use Rattle.rules.proofs.Shared.{Table, tableStart, tableCall, askedRow, tableAfter, tableAnswers}
-use Rattle.rules.proofs.Views.{Sender, senderAt, dataFrom, seen, shifted, run}
-use Rattle.rules.specs.Calls.{Start, index, Call, Answer}
+use Rattle.rules.proofs.Relation.{Agrees, Same, Fits, whole}
+use Rattle.rules.proofs.Shared.{Table, tableCall, askedRow, tableAfter, tableAnswers}
+use Rattle.rules.proofs.Views.{senderAt, dataFrom, seen, run}
+use Rattle.rules.specs.Calls.{Start, index, Call}
 use Rattle.rules.specs.Lists.{keepIf, onlyIf}
-use Rattle.rules.specs.Messages.{Message, Segment, of, ofBy, segmentsFrom, segment, deliveredOf}
-use Rattle.rules.specs.Plain.{Plain, plainStart, plainCall, slotSum, plainAfter, plainAnswers}
+use Rattle.rules.specs.Messages.{Message, Segment, of, segmentsFrom, segment, deliveredOf}
+use Rattle.rules.specs.Plain.{Plain, plainCall, slotSum, plainAfter, plainAnswers}
 use Rattle.rules.specs.Positions.{part, conditionOf}
 use Rattle.rules.specs.Serving.{waiting}
-use Rattle.rules.specs.StationLimits.{Condition, Long}
+use Rattle.rules.specs.StationLimits.{Long}
 use borrow.Author.Tests.{eqb-true}
 use lib.Dec.{eqb}
 
@@ -52,10 +51,6 @@ run-at : (m : Message) (l s i : ℕ) → i < l → run m l s i ≡ segment m (s 
 run-at m zero s i h = absurd (omega arith)
 run-at m (suc l) s zero h = ap (λ (x : ℕ). segment m x ∷ []) (omega arith)
 run-at m (suc l) s (suc i) h = run-at m l (suc s) i (omega arith) ∙ ap (λ (x : ℕ). segment m x ∷ []) (omega arith)
-
-shifted-plus {ℓ} : {E : Type ℓ} (n i : ℕ) (v : ℕ → List E) → shifted n v (n + i) ≡ v i
-shifted-plus zero i v = rw (zero-add i)
-shifted-plus (suc n) i v = rw (suc-add n i) (shifted-plus n i v)
 
 part-entry : (k : ℕ) (q : List Segment) (i : ℕ) (x : Segment) → seen (part k) q i ≡ x ∷ [] → seen (λ (y : Segment). dataFrom y ∷ []) q i ≡ senderAt k (x .number) ∷ []
 part-entry k [] i x e = cc
@@ -103,10 +98,6 @@ of-whole k (m ∷ l) = ofBy-append (λ (s : Segment). s .message .station) k (se
     go : deliveredOf k (whole l) ≡ whole (of k l) → (b : Bool) → eqb (m .station) k ≡ b → deliveredOf k (segmentsFrom m (m .slots) 1) ++ deliveredOf k (whole l) ≡ whole (keepIf b m (of k l))
     go ih true e = rw (own-from k m e (m .slots) 1, ih)
     go ih false e = rw (other-from k m e (m .slots) 1) ih
-
-total-add : (K : ℕ) (f g : ℕ → ℕ) → total K (λ k. f k + g k) ≡ total K f + total K g
-total-add zero f g = omega arith
-total-add (suc K) f g = omega (arith, total-add K f g)
 
 pub ledger-all : (S : Start) (p : Plain) (t : Table) → Same S p t → slotSum (p .taken) ≡ length (p .history) + total (length (S .indexes)) (λ k. waiting (t .condition k))
 ledger-all S p t R =

@@ -2,9 +2,9 @@
 -- minislot make together is what the plain channel's messages asking there make. Assumes the laws of `mix`, as parameters.
 use mathlib.Core.Path.{_≡_, refl, sym, ap, subst, _∙_}
 use mathlib.Core.Bool.{Bool, true, false}
-use mathlib.Core.List.{List, [], _∷_, _++_, map}
+use mathlib.Core.List.{List, [], _∷_, map}
 use mathlib.Core.Logic.{_≢_, by-cases}
-use Prim.Native.Nat.{ℕ, zero, suc, _+_, _-_, _≤_, _<_}
+use Prim.Native.Nat.{ℕ, zero, suc, _-_, _≤_, _<_}
 use native.Mathlib.Omega.{arith}
 use native.Mathlib.Decide.{decLt}
 use lib.ListN.{length}
@@ -17,7 +17,6 @@ use Rattle.rules.specs.Calls.{Start}
 use Rattle.rules.specs.Lists.{keepIf, onlyIf}
 use Rattle.rules.specs.Messages.{Message, ofBy, of}
 use Rattle.rules.specs.Plain.{Plain}
-use Rattle.rules.specs.StationLimits.{Condition}
 use borrow.Author.Tests.{eqb-true, ne-eqb, eqb-false}
 use lib.Dec.{eqb}
 

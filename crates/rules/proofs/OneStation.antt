@@ -1,9 +1,8 @@
 -- One slot that goes through, for one station: what it shows before is kept by the station rules and the plain channel. Assumes nothing.
-use mathlib.Core.Path.{_≡_, refl, sym, ap, subst, _∙_}
+use mathlib.Core.Path.{_≡_, refl, sym, ap, _∙_}
 use mathlib.Core.Bool.{Bool, true, false, cond}
-use mathlib.Core.List.{List, [], _∷_, _++_, map, append-assoc}
-use Prim.Native.Nat.{ℕ, zero, suc, _+_, _-_, _≤_, _<_}
-use native.Mathlib.Omega.{arith}
+use mathlib.Core.List.{List, [], _++_, map, append-assoc}
+use Prim.Native.Nat.{ℕ, zero, _+_, _-_, _≤_}
 use lib.ListN.{length}
 use Rattle.rules.proofs.Landing.{ofBy-append}
 use Rattle.rules.proofs.SettleViews.{settle-ok, settle-asked, settle-fresh, settle-asked-far, settle-res-far}
@@ -13,12 +12,10 @@ use Rattle.rules.proofs.ServeViews.{asks-view, falls-view, asks-fits, f
 use Rattle.minislot.specs.declared.Feedback.{Feedback}
 use Rattle.rules.proofs.Clauses.{read, settle, asks, falls}
 use Rattle.rules.proofs.Relation.{lengths, Shows, Agrees, Fits, remaining, whole, freshOf, askedOf, resolvingOf, urgentOf, longOf}
-use Rattle.rules.proofs.Views.{eqb-self, seen, atFirst, atPlace}
+use Rattle.rules.proofs.Views.{seen}
 use Rattle.rules.specs.Calls.{Start, index}
-use Rattle.rules.specs.Lists.{onlyIf}
 use Rattle.rules.specs.Messages.{Message, Segment, of, deliveredOf}
-use Rattle.rules.specs.Plain.{Queues, Group, Plain, joinRow, queuesOf, plainSuccess, plainSettled, renewed, plainWent, served, rest}
-use Rattle.rules.specs.Positions.{one, part}
+use Rattle.rules.specs.Plain.{Queues, Plain, queuesOf, plainSuccess, plainSettled, renewed, plainWent, served}
 use Rattle.rules.specs.StationLimits.{Condition, Free, Fresh, Asked, Resolving, Urgent, Long}
 use Rattle.rules.specs.declared.Places.{Places}
 use borrow.Author.Tests.{eqb-true, ne-eqb, eqb-false}

@@ -1,23 +1,20 @@
 -- No station of a channel misses itself: it hears its own request in its minislot, alone or in a Collide that contains all its ones, and itself nowhere
 -- else. So refusal 12 never comes. Assumes nothing.
-use mathlib.Core.Path.{_≡_, refl, sym, ap, subst, _∙_}
+use mathlib.Core.Path.{_≡_, refl, sym, ap, _∙_}
 use mathlib.Core.Bool.{Bool, true, false, not, cond, _&&_}
-use mathlib.Core.List.{List, [], _∷_, _++_, map}
-use mathlib.Core.Logic.{_≢_, by-cases}
-use Prim.Native.Nat.{ℕ, zero, suc, _+_, _≤_, _<_, _^_}
+use mathlib.Core.List.{List, [], _∷_}
+use mathlib.Core.Logic.{by-cases}
+use Prim.Native.Nat.{ℕ, zero, suc, _≤_, _<_}
 use native.Mathlib.Omega.{arith}
 use native.Mathlib.Decide.{decLt}
 use lib.Bits.{bitOr, or-comm}
 use lib.Dec.{eqb}
-use lib.ListN.{length}
 use borrow.Author.Tests.{eqb-true, ne-eqb, eqb-false}
 use Rattle.pattern.specs.Ones.{containsOnes}
 use Rattle.pattern.specs.Patterns.{wordOf}
 use Rattle.pattern.proofs.Ones.{or-contains, or-assoc}
 use Rattle.pattern.proofs.Patterns.{pattern-below}
-use Rattle.minislot.specs.declared.Minislot.{Minislot}
-use Rattle.minislot.specs.declared.Feedback.{Feedback}
-use Rattle.minislot.specs.Together.{carries, together}
+use Rattle.minislot.specs.Together.{together}
 use Rattle.rules.specs.Lists.{keepIf, onlyIf}
 use Rattle.rules.specs.Messages.{ofBy}
 use Rattle.rules.specs.Hearing.{wordsOf}
@@ -28,7 +25,7 @@ use Rattle.rules.proofs.Clauses.{hearing}
 use Rattle.rules.proofs.Shared.{gather, askedSender, askedRow}
 use Rattle.rules.proofs.Census.{gather-of}
 use Rattle.rules.proofs.AskedRows.{asked-own}
-use Rattle.rules.proofs.WireRows.{asRequest, leaves, minislotRow, Indexes}
+use Rattle.rules.proofs.WireRows.{leaves, minislotRow, Indexes}
 
 abbrev keyed : ℕ → List Sender → List Sender
 keyed k l = ofBy (λ s. s .position) k l

@@ -1,16 +1,17 @@
--- Laws of `seen`, `late` and `of`: what one station sees of a queue that grew, by places. Assumes nothing.
-use mathlib.Core.Path.{_≡_, refl, sym, ap, _∙_}
-use mathlib.Core.Bool.{Bool, true, false, true≢false, false≢true}
-use mathlib.Core.List.{List, [], _∷_, _++_}
-use Prim.Native.Nat.{ℕ, zero, suc, _+_, _-_, _≤_, _<_}
+-- Laws of `seen`, `shifted` and `of`: what one station sees of a queue that grew, by places. Assumes nothing.
+use mathlib.Core.Path.{_≡_, refl, ap, _∙_}
+use mathlib.Core.Bool.{Bool, true, false}
+use mathlib.Core.List.{List, [], _∷_, _++_, map}
+use Prim.Native.Nat.{ℕ, zero, suc, _+_, _-_}
 use native.Mathlib.Omega.{arith}
+use native.Mathlib.Nat.{zero-add, suc-add}
 use lib.ListN.{length}
-use Rattle.rules.proofs.Views.{eqb-self, seen, atFirst, shifted, atPlace, run}
-use Rattle.rules.specs.Lists.{keepIf, onlyIf}
-use Rattle.rules.specs.Messages.{Message, Segment, of, segment, segmentsFrom}
-use Rattle.rules.specs.Positions.{one, part}
-use borrow.Author.Tests.{eqb-true}
-use lib.Dec.{eqb}
+use Rattle.rules.proofs.Views.{seen, atFirst, shifted, atPlace, run}
+use Rattle.rules.specs.Lists.{onlyIf}
+use Rattle.rules.specs.Messages.{Message, of, segmentsFrom}
+use Rattle.rules.specs.Positions.{part}
+use borrow.Author.Tests.{ne-eqb}
+use lib.Dec.{eqb, eqb·suc-suc}
 
 module _ {ℓ κ} {A : Type ℓ} {E : Type κ} (f : A → List E) where
   -- newcomers of which nothing is seen change nothing
@@ -47,6 +48,22 @@ module _ {ℓ} {E : Type ℓ} where
   shifted-nil zero i = first-nil i
   shifted-nil (suc n) zero = refl
   shifted-nil (suc n) (suc i) = shifted-nil n i
+
+-- places behind a start of n
+pub shifted-plus {ℓ} : {E : Type ℓ} (n i : ℕ) (v : ℕ → List E) → shifted n v (n + i) ≡ v i
+shifted-plus zero i v = rw (zero-add i)
+shifted-plus (suc n) i v = rw (suc-add n i) (shifted-plus n i v)
+
+-- a place, as a test on its number
+pub shifted-map {ℓ κ} : {A : Type ℓ} {B : Type κ} (f : A → B) (m : A) (n i : ℕ) → map f (shifted n (atFirst (m ∷ [])) i) ≡ onlyIf (eqb n i) (f m ∷ [])
+shifted-map f m zero zero = refl
+shifted-map f m zero (suc i) = rw (ne-eqb zero (suc i) (λ e. omega arith))
+shifted-map f m (suc n) zero = rw (ne-eqb (suc n) zero (λ e. omega arith))
+shifted-map f m (suc n) (suc i) = shifted-map f m n i ∙ rw (eqb·suc-suc n i)
+
+pub place-map {ℓ κ} : {A : Type ℓ} {B : Type κ} (f : A → B) (m : A) (n i : ℕ) → map f (atPlace n (atFirst (m ∷ [])) i) ≡ onlyIf (eqb n (suc i)) (f m ∷ [])
+place-map f m zero i = rw (ne-eqb zero (suc i) (λ e. omega arith))
+place-map f m (suc n) i = shifted-map f m n i ∙ rw (eqb·suc-suc n i)
 
 -- a whole message's segments, seen by its own station and by another
 pub run-own : (k : ℕ) (m : Message) → eqb (m .station) k ≡ true → (n s i : ℕ) → seen (part k) (segmentsFrom m n s) i ≡ run m n s i

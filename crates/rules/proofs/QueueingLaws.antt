@@ -1,12 +1,12 @@
 -- Step 1's sums only grow, so testing the limits once after the row is testing them at each minislot.
 -- Assumes nothing.
-use mathlib.Core.Path.{_≡_, refl, sym, ap, _∙_}
+use mathlib.Core.Path.{_≡_, refl}
 use mathlib.Core.Bool.{Bool, true, false, _||_}
-use mathlib.Core.List.{List, [], _∷_, foldl}
-use Prim.Native.Nat.{ℕ, zero, suc, _+_, _≤_, _<_}
+use mathlib.Core.List.{List, [], _∷_}
+use Prim.Native.Nat.{ℕ, _≤_}
 use native.Mathlib.Omega.{arith}
 use lib.Dec.{ltb, eqb}
-use borrow.Author.Tests.{lt-ltb, le-ltb, ltb-true, ltb-false}
+use borrow.Author.Tests.{lt-ltb, ltb-true}
 use Rattle.minislot.specs.declared.Feedback.{Feedback}
 use Rattle.minislot.specs.declared.Feedback.the-variants.{Empty, Single, Collide}
 use Rattle.rules.specs.declared.Places.{Places}

@@ -1,16 +1,16 @@
 -- The relation, one station and one group at a time: what the station sees of each queue is what its condition says. Assumes nothing.
 use mathlib.Core.Path.{_≡_}
 use mathlib.Core.Bool.{true}
-use mathlib.Core.List.{List, [], _∷_, _++_, map}
-use Prim.Native.Nat.{ℕ, zero, suc, _+_, _-_, _≤_, _<_}
+use mathlib.Core.List.{List, [], _∷_, _++_}
+use Prim.Native.Nat.{ℕ, suc, _+_, _-_, _≤_, _<_}
 use lib.ListN.{length}
 use Rattle.rules.proofs.Shared.{Table, TableResult}
-use Rattle.rules.proofs.Views.{seen, atFirst, shifted, atPlace, run}
+use Rattle.rules.proofs.Views.{seen, atFirst, atPlace, run}
 use Rattle.rules.specs.declared.Places.{Places}
 use Rattle.rules.specs.Calls.{Start}
 use Rattle.rules.specs.Lists.{onlyIf}
 use Rattle.rules.specs.Messages.{Message, Segment, of, segmentsFrom, deliveredOf}
-use Rattle.rules.specs.Plain.{Queues, Group, Plain, PlainResult}
+use Rattle.rules.specs.Plain.{Queues, Plain, PlainResult}
 use Rattle.rules.specs.Positions.{one, part}
 use Rattle.rules.specs.StationLimits.{Condition, Free, Fresh, Asked, Resolving, Urgent, Long}
 use lib.Dec.{eqb}

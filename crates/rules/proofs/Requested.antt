@@ -1,29 +1,22 @@
 -- The wire: after a slot the stations asked in a minislot are those that requested there (this group) or were asked there before (other groups).
 -- Assumes nothing.
-use mathlib.Core.Path.{_≡_, refl, sym, ap, subst, _∙_}
-use mathlib.Core.Bool.{Bool, true, false, not, cond, _&&_}
-use mathlib.Core.List.{List, [], _∷_, _++_, map}
-use mathlib.Core.Logic.{_≢_, by-cases}
-use Prim.Native.Nat.{ℕ, zero, suc, _+_, _-_, _≤_, _<_}
+use mathlib.Core.Path.{_≡_, refl, sym, _∙_}
+use mathlib.Core.Bool.{Bool, true, false, cond}
+use mathlib.Core.List.{List, [], _∷_}
+use Prim.Native.Nat.{ℕ, zero, suc, _-_}
 use native.Mathlib.Omega.{arith}
-use native.Mathlib.Decide.{decLt}
 use lib.ListN.{length}
 use Rattle.rules.proofs.SettleViews.{after-ind}
 use Rattle.rules.proofs.ServeViews.{asks-view, falls-view}
-use Rattle.rules.proofs.QueueViews.{shifted-at, lone-own, lone-other}
-use Rattle.rules.proofs.SlotStep.{heard-eq}
 use Rattle.minislot.specs.declared.Feedback.{Feedback}
-use Rattle.minislot.specs.declared.Feedback.the-variants.{Empty, Single, Collide}
-use Rattle.rules.proofs.Clauses.{read, after, settle, asks, front, falls, serves, requestSender}
-use Rattle.rules.proofs.Relation.{Agrees, Same, Fits, askedOf}
-use Rattle.rules.proofs.Shared.{Table, askedSender, tableRow}
-use Rattle.rules.proofs.Views.{Sender, senderAt, eqb-self, seen, atFirst, shifted, atPlace}
-use Rattle.rules.specs.Calls.{Start, index}
-use Rattle.rules.specs.Lists.{keepIf, onlyIf}
-use Rattle.rules.specs.Messages.{Message, Segment, of}
-use Rattle.rules.specs.Plain.{Plain, plainTurn, sent}
+use Rattle.rules.proofs.Clauses.{after, settle, asks, front, falls, serves, requestSender}
+use Rattle.rules.proofs.Shared.{askedSender}
+use Rattle.rules.proofs.Views.{senderAt, eqb-self}
+use Rattle.rules.specs.Lists.{onlyIf}
+use Rattle.rules.specs.Messages.{Message, Segment}
+use Rattle.rules.specs.Plain.{plainTurn, sent}
 use Rattle.rules.specs.StationLimits.{Condition, Free, Fresh, Asked, Resolving, Urgent, Long}
-use Rattle.rules.specs.Turns.{Turn, OpenTurn}
+use Rattle.rules.specs.Turns.{OpenTurn}
 use Rattle.rules.specs.declared.Places.{Places}
 use borrow.Author.Tests.{eqb-true, ne-eqb, eqb-false}
 use lib.Dec.{eqb}

@@ -1,21 +1,21 @@
 -- The relation settles each station's condition: it is what a search of the plain queues finds. Assumes nothing.
-use mathlib.Core.Path.{_≡_, refl, sym, ap, subst, _∙_}
+use mathlib.Core.Path.{_≡_, refl, sym, ap, _∙_}
 use mathlib.Core.Bool.{Bool, true, false}
-use mathlib.Core.List.{List, [], _∷_, _++_}
-use mathlib.Core.Option.{Option, none, some}
+use mathlib.Core.List.{List, [], _∷_}
+use mathlib.Core.Option.{none, some}
 use mathlib.Core.Logic.{_≢_}
-use Prim.Native.Nat.{ℕ, zero, suc, _+_, _-_, _≤_, _<_}
+use Prim.Native.Nat.{ℕ, zero, suc, _+_, _-_, _≤_}
 use native.Mathlib.Omega.{arith}
 use lib.ListN.{length}
-use Rattle.rules.proofs.Relation.{Agrees, Fits, freshOf, askedOf, resolvingOf, urgentOf, longOf}
-use Rattle.rules.proofs.Views.{eqb-self, seen, atFirst, shifted, atPlace, run}
+use Rattle.rules.proofs.Relation.{Agrees, Fits}
+use Rattle.rules.proofs.Views.{seen, atFirst, shifted, run}
 use Rattle.rules.specs.Calls.{Start}
 use Rattle.rules.specs.Lists.{keepIf, onlyIf}
 use Rattle.rules.specs.Messages.{Message, Segment, of, segment, deliveredOf}
 use Rattle.rules.specs.Plain.{Plain}
-use Rattle.rules.specs.Positions.{one, part, Found, spotted, find, orElse, freshAt, askedAt, resolvingAt, urgentAt, longAt, inGroups, conditionOf}
+use Rattle.rules.specs.Positions.{one, part, find, inGroups, conditionOf}
 use Rattle.rules.specs.StationLimits.{Condition, Free, Fresh, Asked, Resolving, Urgent, Long}
-use borrow.Author.Tests.{eqb-true, ne-eqb, eqb-false}
+use borrow.Author.Tests.{eqb-true, eqb-false}
 use lib.Dec.{eqb}
 
 shifted-first {ℓ} : {E : Type ℓ} (n : ℕ) (v : ℕ → List E) → shifted n v n ≡ v zero

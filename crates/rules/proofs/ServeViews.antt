@@ -1,20 +1,19 @@
 -- Steps 3 to 5 on the history and the limits, and on other groups. Assumes nothing.
-use mathlib.Core.Path.{_≡_, refl, sym, ap, subst, _∙_}
-use mathlib.Core.Bool.{Bool, true, false, cond}
-use mathlib.Core.List.{List, [], _∷_, _++_, map, append-nil}
-use Prim.Native.Nat.{ℕ, zero, suc, _+_, _-_, _≤_, _<_}
+use mathlib.Core.Path.{_≡_, refl, sym, ap, _∙_}
+use mathlib.Core.Bool.{Bool, true, false}
+use mathlib.Core.List.{List, [], _∷_, _++_}
+use Prim.Native.Nat.{ℕ, zero, suc, _+_, _-_, _≤_}
 use native.Mathlib.Omega.{arith}
 use lib.ListN.{length}
 use Rattle.rules.proofs.Clauses.{asks, front, falls, lower, shorter}
-use Rattle.rules.proofs.Relation.{Fits, remaining, freshOf, askedOf, resolvingOf, urgentOf, longOf}
-use Rattle.rules.proofs.Views.{eqb-self, seen, atFirst, shifted, atPlace, run}
+use Rattle.rules.proofs.Relation.{Fits, remaining, urgentOf, longOf}
+use Rattle.rules.proofs.Views.{seen}
 use Rattle.rules.specs.Calls.{Start}
 use Rattle.rules.specs.Lists.{keepIf, onlyIf}
-use Rattle.rules.specs.Messages.{Message, Segment, of, segment, segmentsFrom, deliveredOf}
+use Rattle.rules.specs.Messages.{Message, Segment, segment, segmentsFrom, deliveredOf}
 use Rattle.rules.specs.Plain.{served}
 use Rattle.rules.specs.Positions.{one, part}
 use Rattle.rules.specs.StationLimits.{Condition, Free, Fresh, Asked, Resolving, Urgent, Long}
-use borrow.Author.Tests.{eqb-true, ne-eqb, eqb-false}
 use lib.Dec.{eqb}
 
 -- one law for each view that steps 3 to 5 leave alone

@@ -1,7 +1,7 @@
 -- The table as one set of counters that all stations share and a condition for each position, and its calls: the middle between the plain channel and
 -- the records. What is read of the wire is stated of the stations asked there. Assumes nothing.
-use mathlib.Core.Bool.{Bool, true, false, not, _&&_, cond}
-use mathlib.Core.List.{List, [], _∷_, _++_, map}
+use mathlib.Core.Bool.{Bool, true, cond}
+use mathlib.Core.List.{List, [], _∷_, _++_}
 use mathlib.Core.Option.{Option, none, some}
 use Prim.Native.Nat.{ℕ, zero, suc, _+_}
 use lib.Dec.{eqb}
@@ -12,7 +12,7 @@ use Rattle.message.specs.Message.{fitsMessage, slotsFor}
 use Rattle.rules.specs.declared.Places.{Places}
 use Rattle.rules.specs.Lists.{onlyIf}
 use Rattle.rules.specs.Queueing.{immediate, queuedRow, passes}
-use Rattle.rules.specs.Turns.{Turn, turnOf, isOpen}
+use Rattle.rules.specs.Turns.{turnOf, isOpen}
 use Rattle.rules.specs.Falling.{following}
 use Rattle.rules.specs.StationLimits.{Condition, Free, Fresh, Asked, Resolving, Urgent, Long}
 use Rattle.rules.specs.StationCalls.{isFree}

@@ -12,22 +12,21 @@ use Rattle.rules.proofs.AskedRows.{row-eq, weight-eq}
 use Rattle.rules.proofs.SettleViews.{settle-fresh}
 use Rattle.rules.proofs.OneStation.{first, later, first-ok, station-ok}
 use Rattle.rules.proofs.DataSenders.{send-ok, senders-read, senders-length}
-use Rattle.minislot.specs.Row.{weight}
 use Rattle.minislot.specs.declared.Feedback.{Feedback}
-use Rattle.rules.proofs.Clauses.{less, read, settle, asks, falls, sendsBy, serves, nLeft, hearing, loneIndexOf, loneNumberOf}
-use Rattle.rules.proofs.Relation.{lengths, Fits, Agrees, Same, Crowded, Shows, freshOf, whole}
-use Rattle.rules.proofs.Shared.{Table, TableResult, askedRow, tableRow, tablePlaces, tableSuccess, tableSettled, tableCondition, tableWent, tableSends, tableAnswer, tableSlot, gather, senderIf}
-use Rattle.rules.proofs.Views.{Sender, eqb-self, dataFrom}
-use Rattle.rules.specs.Calls.{Start, index, Answer, Went}
+use Rattle.rules.proofs.Clauses.{less, read, settle, asks, serves, nLeft, hearing, loneIndexOf, loneNumberOf}
+use Rattle.rules.proofs.Relation.{lengths, Fits, Agrees, Same, Crowded, Shows, whole}
+use Rattle.rules.proofs.Shared.{Table, tableRow, tablePlaces, tableSuccess, tableSettled, tableCondition, tableWent, tableSends, tableAnswer, gather, senderIf}
+use Rattle.rules.proofs.Views.{Sender, dataFrom}
+use Rattle.rules.specs.Calls.{Start, index, Went}
 use Rattle.rules.specs.ChannelCalls.{successes}
 use Rattle.rules.specs.Falling.{following}
 use Rattle.rules.specs.Messages.{Message, Segment, ofBy, of}
-use Rattle.rules.specs.Plain.{Queues, Group, Plain, PlainResult, joinAlone, joinMinislot, joinRow, queuesOf, plainSuccess, plainSettled, overflows, renewed, plainMark, nextGroup, plainWent, plainLoneIndex, plainLoneSegment, plainAnswer, grown, plainSlot, plainTurn, served, sent, rest, longLeft, askingRow, pickedIn, plainWeight}
+use Rattle.rules.specs.Plain.{Queues, Plain, joinAlone, joinMinislot, joinRow, queuesOf, plainSuccess, plainSettled, overflows, renewed, plainMark, nextGroup, plainWent, plainLoneIndex, plainLoneSegment, plainAnswer, grown, plainTurn, served, sent, rest, longLeft, askingRow}
 use Rattle.rules.specs.Queueing.{queuedRow, passes}
-use Rattle.rules.specs.StationLimits.{Condition, Free, Fresh, Asked, Resolving, Urgent, Long}
+use Rattle.rules.specs.StationLimits.{Free}
 use Rattle.rules.specs.Turns.{Turn, UrgentTurn, LongTurn, ResolveTurn, OpenTurn, isOpen, turnOf}
 use Rattle.rules.specs.declared.Places.{Places}
-use borrow.Author.Tests.{eqb-true, ne-eqb, eqb-false, lt-ltb, le-ltb, ltb-true, ltb-false, leb-true, leb-false, not-false}
+use borrow.Author.Tests.{eqb-true, eqb-false, lt-ltb, le-ltb, ltb-true, ltb-false, leb-true, leb-false, not-false}
 
 -- lengths of what is left, and the turn
 length-rest {ℓ} : {A : Type ℓ} (l : List A) → less (length l) ≡ length (rest l)
@@ -177,7 +176,7 @@ segmentsSent p = sent (plainSettled p .urgent) (plainSettled p .long) (plainSett
 abbrev sentBy : Plain → List Sender
 sentBy p = map dataFrom (segmentsSent p)
 
-went-cong : {t t′ : Turn} {n n′ i i′ s s′ d d′ : ℕ} → t ≡ t′ → n ≡ n′ → i ≡ i′ → s ≡ s′ → d ≡ d′ → Went t n i s d ≡ Went t′ n′ i′ s′ d′
+pub went-cong : {t t′ : Turn} {n n′ i i′ s s′ d d′ : ℕ} → t ≡ t′ → n ≡ n′ → i ≡ i′ → s ≡ s′ → d ≡ d′ → Went t n i s d ≡ Went t′ n′ i′ s′ d′
 went-cong a b c d e = cc
 
 module _ (S : Start) (p : Plain) (t : Table) (R : Same S p t) where

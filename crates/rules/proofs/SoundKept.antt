@@ -1,40 +1,36 @@
 -- The table that the plain channel shows is sound, so 18 never comes. Assumes nothing.
 use mathlib.Core.Path.{_≡_, refl, sym, ap, subst, _∙_}
-use mathlib.Core.Bool.{Bool, true, false, not, cond, _&&_}
-use mathlib.Core.List.{List, [], _∷_, _++_, map}
-use mathlib.Core.Logic.{_≢_, by-cases}
+use mathlib.Core.Bool.{Bool, true, false, cond, _&&_}
+use mathlib.Core.List.{List, [], _∷_, map}
 use Prim.Native.Nat.{ℕ, zero, suc, _+_, _-_, _≤_, _<_}
 use native.Mathlib.Omega.{arith}
 use native.Mathlib.Nat.{zero-add}
-use native.Mathlib.Decide.{decLt}
 use lib.Dec.{eqb, leb, ltb}
-use lib.ListN.{length, getD, length-map, length-append}
+use lib.ListN.{length, getD, length-append}
 use lib.Seq.{ext-getD}
-use borrow.Author.Tests.{eqb-true, eqb-false, ne-eqb, eq-eqb, le-leb, lt-ltb, le-ltb, ltb-true, ltb-false}
-use Rattle.minislot.specs.declared.Minislot.{Minislot}
+use borrow.Author.Tests.{eq-eqb, le-leb, ltb-false}
 use Rattle.minislot.specs.Together.{Request, carries, silent, together}
-use Rattle.rules.specs.declared.Counters.{Counters}
 use Rattle.rules.specs.declared.Station.{Station}
 use Rattle.rules.specs.declared.Row.{Row}
-use Rattle.rules.specs.Lists.{gatherOf, onlyIf, countOf}
-use Rattle.listlaws.specs.Every.{everyFrom}
+use Rattle.rules.specs.Lists.{onlyIf}
 use Rattle.rules.specs.Limits.{resolutionWithin, openedWithin, groupsWithin, withinLimits, between}
-use Rattle.rules.specs.StationLimits.{Condition, Free, Fresh, Asked, Resolving, Urgent, Long, resolutionAt, conditionWithin, stationWithin}
-use Rattle.rules.specs.StationCalls.{noStation}
-use Rattle.rules.specs.Soundness.{tableCounters, askedRequest, askedRequests, askedMinislot, soundTable}
-use Rattle.rules.specs.ChannelCalls.{Channel, blankRow}
+use Rattle.rules.specs.StationLimits.{Condition, Free, Fresh, Asked, Resolving, Urgent, Long, conditionWithin, stationWithin}
+use Rattle.rules.specs.Soundness.{askedRequest, askedRequests, askedMinislot, soundTable}
+use Rattle.rules.specs.ChannelCalls.{Channel}
 use Rattle.rules.specs.SoundMeaning.{atUrgent, coversLong, atResolving, stationAt, howMany, Sound}
 use Rattle.rules.specs.Calls.{Start, index}
 use Rattle.rules.specs.Plain.{Plain}
-use Rattle.rules.proofs.Views.{Sender, senderAt, eqb-self, eqb-sym}
+use Rattle.rules.proofs.Views.{Sender, senderAt, eqb-sym}
 use Rattle.listlaws.proofs.Table.{from-holds}
 use Rattle.rules.proofs.Shared.{Table, collect, gather, askedSender}
 use Rattle.rules.proofs.Relation.{Same}
 use Rattle.rules.proofs.Sounding.{TableSound, InsideTable, urgentHere, longHere, resolvingHere, sound}
-use Rattle.rules.proofs.WireRows.{asRequest, leaves, minislotRow, length-row, row-at}
+use Rattle.rules.proofs.WireRows.{asRequest, leaves, length-row, row-at}
 use Rattle.rules.proofs.Walking.{IsStation, AreStations}
-use Rattle.rules.proofs.EmbodySlot.{map-append, map-if}
-use Rattle.rules.proofs.Embody.{Embodies, GoodStart, station-at}
+use Rattle.rules.proofs.EmbodySlot.{map-if}
+use Rattle.rules.proofs.TestLaws.{map-append}
+use Rattle.rules.proofs.Embody.{Embodies, GoodStart, station-at, same-length}
+use Rattle.rules.proofs.SoundLists.{counters-cong}
 use Rattle.rules.proofs.SoundMeans.{says-sound}
 
 -- ---- counting stations is counting positions
@@ -176,35 +172,28 @@ module _ (S : Start) (G : GoodStart S) (p : Plain) (t : Table) (R : Same S p t) 
   -- two stations have equal counters
   pub counters-same : (i k : ℕ) (x y : Station) → IsStation S t i x → IsStation S t k y → x .counters ≡ y .counters
   counters-same i k x y a b =
-      cong (x .counters .minislots) (y .counters .minislots) (x .counters .groups) (y .counters .groups) (x .counters .next) (y .counters .next) (x .counters .urgent) (y .counters .urgent)
+      counters-cong (x .counters .minislots) (y .counters .minislots) (x .counters .groups) (y .counters .groups) (x .counters .next) (y .counters .next) (x .counters .urgent) (y .counters .urgent)
       (x .counters .long) (y .counters .long) (x .counters .resolution) (y .counters .resolution) (x .counters .opened) (y .counters .opened)
       (a .minislots ∙ sym (b .minislots)) (a .groups ∙ sym (b .groups)) (a .next ∙ sym (b .next)) (a .urgent ∙ sym (b .urgent)) (a .long ∙ sym (b .long))
       (ext-getD 0 (x .counters .resolution) (y .counters .resolution) (a .arrays .0 ∙ sym (b .arrays .0)) (λ j h. rq-at i x a j (omega (arith, a .arrays .0)) ∙ sym (rq-at k y b j (omega (arith, a .arrays .0)))))
       (ext-getD false (x .counters .opened) (y .counters .opened) (a .arrays .1 ∙ sym (b .arrays .1)) (λ j h. mark-at i x a j (omega (arith, a .arrays .1)) ∙ sym (mark-at k y b j (omega (arith, a .arrays .1)))))
-    where
-      cong : (m m′ n n′ g g′ h h′ l l′ : ℕ) (r r′ : List ℕ) (o o′ : List Bool) → m ≡ m′ → n ≡ n′ → g ≡ g′ → h ≡ h′ → l ≡ l′ → r ≡ r′ → o ≡ o′
-          → _≡_ {A = Counters} (record { minislots = m; groups = n; next = g; urgent = h; long = l; resolution = r; opened = o }) (record { minislots = m′; groups = n′; next = g′; urgent = h′; long = l′; resolution = r′; opened = o′ })
-      cong m m′ n n′ g g′ h h′ l l′ r r′ o o′ e1 e2 e3 e4 e5 e6 e7 = rw (e1, e2, e3, e4, e5, e6, e7)
 
   -- ---- THE TABLE STAYS SOUND
 
   module _ (ch : Channel) (E : Embodies S t ch) where
-    pub same-length : length (ch .stations) ≡ length (S .indexes)
-    same-length = sym (length-map (ch .stations) (λ (s : Station). s .index)) ∙ ap length (E .indexes)
-
     pub is-at : (k : ℕ) → k < length (ch .stations) → IsStation S t k (stationAt (ch .stations) k)
     is-at k h = subst (λ (i : ℕ). IsStation S t i (stationAt (ch .stations) k)) (zero-add k) (station-at S t 0 (ch .stations) (E .stations) k h)
 
     is-first : IsStation S t 0 (stationAt (ch .stations) 0)
-    is-first = is-at 0 (omega (arith, same-length, G .some))
+    is-first = is-at 0 (omega (arith, (same-length S t ch E), G .some))
 
     pub meaning : Sound (ch .stations) (ch .wire)
     unfolding askedMinislot
     meaning =
         record {
           distinct = λ i k hi hk q.
-              G .indexes .distinct i k (omega (arith, same-length)) (omega (arith, same-length)) (sym (is-at i hi .index) ∙ q ∙ is-at k hk .index);
-          within = λ k h. record-within k (stationAt (ch .stations) k) (is-at k h) (omega (arith, same-length));
+              G .indexes .distinct i k (omega (arith, (same-length S t ch E))) (omega (arith, (same-length S t ch E))) (sym (is-at i hi .index) ∙ q ∙ is-at k hk .index);
+          within = λ k h. record-within k (stationAt (ch .stations) k) (is-at k h) (omega (arith, (same-length S t ch E)));
           shared = λ k h. counters-same k 0 (stationAt (ch .stations) k) (stationAt (ch .stations) 0) (is-at k h) is-first;
           urgent = λ i lo hi. urgent-at i lo (rw (is-first .urgent) at hi);
           long = λ i lo hi. long-at i lo (rw (is-first .long) at hi);
@@ -213,23 +202,23 @@ module _ (S : Start) (G : GoodStart S) (p : Plain) (t : Table) (R : Same S p t) 
               ap (λ (r : Row). getD (r .minislots) (j - 1) silent) (E .wire g gl gh)
               ∙ row-at (index S) (length (S .indexes)) (λ j k. askedSender g j k (t .condition k)) 8 1 (j - 1) silent (omega arith)
               ∙ ap (λ (z : ℕ). leaves (index S) (gather (λ k. askedSender g z k (t .condition k)) (length (S .indexes)))) (let w : 1 + (j - 1) ≡ j = omega arith in w)
-              ∙ ap (λ (n : ℕ). leaves (index S) (gather (λ k. askedSender g j k (t .condition k)) n)) (sym same-length)
+              ∙ ap (λ (n : ℕ). leaves (index S) (gather (λ k. askedSender g j k (t .condition k)) n)) (sym (same-length S t ch E))
               ∙ ap (λ (l : List Request). together (map carries l)) (sym (asked-are S t g j 0 (ch .stations) (E .stations)));
           size = (E .groups, λ g gl gh. ap (λ (r : Row). length (r .minislots)) (E .wire g gl gh) ∙ length-row (index S) (length (S .indexes)) (λ j k. askedSender g j k (t .condition k)) 8 1);
         }
       where
         urgent-at : (i : ℕ) → 1 ≤ i → i ≤ t .h → howMany (atUrgent i) (ch .stations) ≡ 1
         urgent-at zero lo hi = absurd (omega arith)
-        urgent-at (suc i) lo hi = count-are S t (atUrgent (suc i)) (urgentHere (suc i)) (urgent-same (suc i)) 0 (ch .stations) (E .stations) ∙ rw same-length (table .urgent i (omega arith))
+        urgent-at (suc i) lo hi = count-are S t (atUrgent (suc i)) (urgentHere (suc i)) (urgent-same (suc i)) 0 (ch .stations) (E .stations) ∙ rw (same-length S t ch E) (table .urgent i (omega arith))
 
         long-at : (i : ℕ) → 1 ≤ i → i ≤ t .n → howMany (coversLong i) (ch .stations) ≡ 1
         long-at zero lo hi = absurd (omega arith)
-        long-at (suc i) lo hi = count-are S t (coversLong (suc i)) (longHere (suc i)) (long-same (suc i)) 0 (ch .stations) (E .stations) ∙ rw same-length (table .long i (omega arith))
+        long-at (suc i) lo hi = count-are S t (coversLong (suc i)) (longHere (suc i)) (long-same (suc i)) 0 (ch .stations) (E .stations) ∙ rw (same-length S t ch E) (table .long i (omega arith))
 
         resolving-at : (g i : ℕ) → 1 ≤ i → i ≤ t .rq g → 2 ≤ howMany (atResolving g i) (ch .stations)
         resolving-at g zero lo hi = absurd (omega arith)
         resolving-at g (suc i) lo hi =
-            rw (count-are S t (atResolving g (suc i)) (resolvingHere g (suc i)) (resolving-same g (suc i)) 0 (ch .stations) (E .stations), same-length) (table .resolution g i (omega arith))
+            rw (count-are S t (atResolving g (suc i)) (resolvingHere g (suc i)) (resolving-same g (suc i)) 0 (ch .stations) (E .stations), (same-length S t ch E)) (table .resolution g i (omega arith))
 
     pub stays-sound : soundTable (ch .stations) (ch .wire) ≡ true
     stays-sound = says-sound (ch .stations) (ch .wire) meaning

@@ -1,33 +1,29 @@
 -- A table's lists of places beside its stations: each place is named as often as stations stand there, and lies inside its queue if every condition is within
 -- its limits. Assumes nothing.
 use mathlib.Core.Path.{_≡_, refl, sym, ap, subst, _∙_}
-use mathlib.Core.Bool.{Bool, true, false, not, cond, _&&_, Bool·beq}
-use mathlib.Core.List.{List, [], _∷_, _++_, append-assoc, append-nil}
-use mathlib.Core.Logic.{_≢_, by-cases}
-use Prim.Native.Nat.{ℕ, zero, suc, _+_, _-_, _≤_, _<_}
+use mathlib.Core.Bool.{Bool, true, false, cond, _&&_, Bool·beq}
+use mathlib.Core.List.{List, [], _∷_, _++_, append-nil}
+use Prim.Native.Nat.{ℕ, zero, suc, _+_, _-_, _≤_}
 use native.Mathlib.Omega.{arith}
-use lib.Dec.{eqb, leb, ltb}
-use lib.ListN.{length, getD}
-use borrow.Author.Tests.{eqb-true, eqb-false, ne-eqb, leb-true, le-leb}
+use lib.Dec.{eqb, leb}
+use borrow.Author.Tests.{eqb-true, leb-true}
 use Rattle.rules.specs.declared.Counters.{Counters}
 use Rattle.rules.specs.declared.Station.{Station}
-use Rattle.rules.specs.Lists.{each, eachPair, sumOf, countOf, gatherOf, onlyIf}
+use Rattle.rules.specs.Lists.{gatherOf, onlyIf}
 use Rattle.rules.specs.Limits.{between}
-use Rattle.rules.specs.StationLimits.{Condition, Free, Fresh, Asked, Resolving, Urgent, Long, resolutionAt, conditionWithin, stationWithin}
-use Rattle.rules.specs.StationCalls.{noStation}
-use Rattle.rules.specs.Soundness.{otherIndex, sameNumbers, sameMarks, sameCounters, urgentPlace, urgentPlaces, Stretch, longStretch, longStretches, resolvingPlace, resolvingPlaces}
-use Rattle.rules.specs.SoundMeaning.{atUrgent, coversLong, atResolving, stationAt, howMany}
+use Rattle.rules.specs.StationLimits.{Condition, Free, Fresh, Asked, Resolving, Urgent, Long, resolutionAt, conditionWithin}
+use Rattle.rules.specs.Soundness.{sameNumbers, sameMarks, sameCounters, urgentPlace, urgentPlaces, Stretch, longStretch, longStretches, resolvingPlace, resolvingPlaces}
+use Rattle.rules.specs.SoundMeaning.{atUrgent, coversLong, atResolving, howMany}
 use Rattle.rules.proofs.Views.{eqb-self}
+use Rattle.rules.proofs.LimitLaws.{between-bounds}
 use Rattle.rules.proofs.SlotStep.{and-both}
+use Rattle.rules.proofs.TestLaws.{gather-append}
 use Rattle.rules.proofs.Counting.{times, Inside, times-append, inside-append, upFrom, spread, times-spread, AllLeft}
 
 -- every condition is within its limits under the counters c
 abbrev pub AllWithin : Counters → List Station → Type 0
 AllWithin c [] = Unit {0}
 AllWithin c (s ∷ l) = (conditionWithin c (s .condition) ≡ true) × AllWithin c l
-
-between-le : (a x b : ℕ) → between a x b ≡ true → (a ≤ x) × (x ≤ b)
-between-le a x b e = let (p, q) = and-both (leb a x) (leb x b) e in (leb-true a x p, leb-true x b q)
 
 -- ---- the urgent queue
 
@@ -37,7 +33,7 @@ urgent-inside c Free e = tt
 urgent-inside c (Fresh t) e = tt
 urgent-inside c (Asked g j t) e = tt
 urgent-inside c (Resolving g i t) e = tt
-urgent-inside c (Urgent i) e = let (a, b) = between-le 1 i (c .urgent) e in (a, b, tt)
+urgent-inside c (Urgent i) e = let (a, b) = between-bounds 1 i (c .urgent) e in (a, b, tt)
 urgent-inside c (Long f l t) e = tt
 
 pub urgents-inside : (c : Counters) (l : List Station) → AllWithin c l → Inside (c .urgent) (urgentPlaces l)
@@ -58,10 +54,6 @@ urgents-times i (s ∷ l) = times-append i (urgentPlace (s .condition)) (urgentP
 
 -- ---- the long queue
 
-gather-append {ℓ κ} : {A : Type ℓ} {B : Type κ} (f : A → List B) (a b : List A) → gatherOf f (a ++ b) ≡ gatherOf f a ++ gatherOf f b
-gather-append f [] b = refl
-gather-append f (x ∷ a) b = ap (λ z. f x ++ z) (gather-append f a b) ∙ sym (append-assoc (f x) (gatherOf f a) (gatherOf f b))
-
 up-inside : (N f l : ℕ) → 1 ≤ f → f + l ≤ N + 1 → Inside N (upFrom f l)
 up-inside N f zero lo hi = tt
 up-inside N f (suc l) lo hi = (lo, omega arith, up-inside N (suc f) l (omega arith) (omega arith))
@@ -72,7 +64,7 @@ long-parts c f l t e =
     let (x, y) = and-both (between 2 t 255 && between 1 l t && leb 1 f) (leb (f + l) (c .long + 1)) e in
     let (u, v) = and-both (between 2 t 255 && between 1 l t) (leb 1 f) x in
     let (p, q) = and-both (between 2 t 255) (between 1 l t) u in
-    (leb-true 1 f v, between-le 1 l t q .0, leb-true (f + l) (c .long + 1) y)
+    (leb-true 1 f v, between-bounds 1 l t q .0, leb-true (f + l) (c .long + 1) y)
 
 long-inside : (c : Counters) (k : Condition) → conditionWithin c k ≡ true → Inside (c .long) (gatherOf spread (longStretch k))
 long-inside c Free e = tt
@@ -131,7 +123,7 @@ resolving-inside c g (Resolving h i t) e = go (eqb h g) refl
     go true w =
         let (x, y) = and-both (between 1 h (c .groups) && between 1 i (resolutionAt c h)) (between 1 t 255) e in
         let (u, v) = and-both (between 1 h (c .groups)) (between 1 i (resolutionAt c h)) x in
-        let (a, b) = between-le 1 i (resolutionAt c h) v in
+        let (a, b) = between-bounds 1 i (resolutionAt c h) v in
         (a, subst (λ (z : ℕ). i ≤ resolutionAt c z) (eqb-true h g w) b, tt)
     go false w = tt
 resolving-inside c g (Urgent i) e = tt
@@ -194,10 +186,10 @@ marks-self : (a : List Bool) → sameMarks a a ≡ true
 marks-self [] = refl
 marks-self (x ∷ a) = rw (beq-self x) (marks-self a)
 
-abbrev countersFrom : ℕ → ℕ → ℕ → ℕ → ℕ → List ℕ → List Bool → Counters
+abbrev pub countersFrom : ℕ → ℕ → ℕ → ℕ → ℕ → List ℕ → List Bool → Counters
 countersFrom m n g h l r o = record { minislots = m; groups = n; next = g; urgent = h; long = l; resolution = r; opened = o }
 
-counters-cong : (m m′ n n′ g g′ h h′ l l′ : ℕ) (r r′ : List ℕ) (o o′ : List Bool) → m ≡ m′ → n ≡ n′ → g ≡ g′ → h ≡ h′ → l ≡ l′ → r ≡ r′ → o ≡ o′
+pub counters-cong : (m m′ n n′ g g′ h h′ l l′ : ℕ) (r r′ : List ℕ) (o o′ : List Bool) → m ≡ m′ → n ≡ n′ → g ≡ g′ → h ≡ h′ → l ≡ l′ → r ≡ r′ → o ≡ o′
     → countersFrom m n g h l r o ≡ countersFrom m′ n′ g′ h′ l′ r′ o′
 counters-cong m m′ n n′ g g′ h h′ l l′ r r′ o o′ a b c d e f i = rw (a, b, c, d, e, f, i)
 

@@ -1,15 +1,15 @@
 -- The test of a sound table and what the paper says of one are the same: each clause, both ways. Assumes nothing.
 use mathlib.Core.Path.{_≡_, refl, sym, ap, subst, _∙_}
-use mathlib.Core.Bool.{Bool, true, false, not, cond, _&&_}
-use mathlib.Core.List.{List, [], _∷_, _++_}
+use mathlib.Core.Bool.{Bool, true, not, _&&_}
+use mathlib.Core.List.{List, [], _∷_}
 use mathlib.Core.Logic.{_≢_, by-cases}
 use Prim.Native.Nat.{ℕ, zero, suc, _+_, _-_, _≤_, _<_}
 use native.Mathlib.Omega.{arith}
 use native.Mathlib.Decide.{decLt}
 use native.Mathlib.Nat.{zero-add}
-use lib.Dec.{eqb, leb, ltb}
+use lib.Dec.{eqb, leb}
 use lib.ListN.{length, getD}
-use borrow.Author.Tests.{eqb-true, eqb-false, ne-eqb, eq-eqb}
+use borrow.Author.Tests.{eqb-true, ne-eqb, eq-eqb}
 use Rattle.minislot.specs.declared.Minislot.{Minislot}
 use Rattle.minislot.specs.Together.{silent}
 use Rattle.rules.specs.declared.Counters.{Counters}
@@ -17,17 +17,18 @@ use Rattle.rules.specs.declared.Station.{Station}
 use Rattle.rules.specs.declared.Row.{Row}
 use Rattle.rules.specs.Lists.{each, eachPair, sumOf, gatherOf}
 use Rattle.listlaws.specs.Every.{everyFrom}
-use Rattle.rules.specs.Limits.{groupsWithin, withinLimits, between}
-use Rattle.rules.specs.StationLimits.{Condition, resolutionAt, conditionWithin, stationWithin}
+use Rattle.rules.specs.Limits.{withinLimits}
+use Rattle.rules.specs.StationLimits.{resolutionAt, conditionWithin, stationWithin}
 use Rattle.rules.specs.StationCalls.{noStation}
 use Rattle.rules.specs.Soundness.{tableCounters, otherIndex, indexesDistinct, recordsWithin, sameCounters, countersShared, differ, urgentPlaces, urgentSound, Stretch, apart, longStretches, longSound, differentPlaces, namedTwice, resolvingPlaces, resolutionSoundAt, resolutionSound, askedMinislot, sameMinislot, rowSound, wireSound, soundTable}
 use Rattle.rules.specs.ChannelCalls.{blankRow}
 use Rattle.rules.specs.SoundMeaning.{atUrgent, coversLong, atResolving, stationAt, howMany, Sound}
 use Rattle.rules.proofs.Views.{eqb-self}
 use Rattle.listlaws.proofs.Table.{from-holds, from-at}
+use Rattle.rules.proofs.LimitLaws.{within-limits, arrays-lengths}
 use Rattle.rules.proofs.SlotStep.{and-both}
 use Rattle.rules.proofs.SoundTests.{SoundTests, sound-tests, tests-sound}
-use Rattle.rules.proofs.Counting.{times, Inside, pairs-once, once-pairs, exactly-one, one-each, spread, length-spread, apart-once, once-apart, two-or-more, twice-each}
+use Rattle.rules.proofs.Counting.{pairs-once, once-pairs, exactly-one, one-each, spread, length-spread, apart-once, once-apart, two-or-more, twice-each}
 use Rattle.rules.proofs.SoundLists.{AllWithin, urgents-inside, urgents-times, longs-inside, longs-left, longs-times, resolvings-inside, resolvings-times, counters-eq, counters-self}
 
 -- ---- lists of stations, element by element
@@ -62,7 +63,7 @@ eq-not a b h = rw (ne-eqb a b h)
 
 -- ---- the conditions within the shared counters
 
-within-parts : (s : Station) → stationWithin s ≡ true → (withinLimits (s .counters) ≡ true) × (conditionWithin (s .counters) (s .condition) ≡ true)
+pub within-parts : (s : Station) → stationWithin s ≡ true → (withinLimits (s .counters) ≡ true) × (conditionWithin (s .counters) (s .condition) ≡ true)
 unfolding stationWithin
 within-parts s e =
     let (x, y) = and-both (withinLimits (s .counters) && leb (s .index) 923) (conditionWithin (s .counters) (s .condition)) e in
@@ -73,18 +74,9 @@ all-within c [] w e = tt
 all-within c (s ∷ l) w e =
     (rw (← (e zero (omega arith))) (within-parts s (w zero (omega arith)) .1), all-within c l (λ k h. w (suc k) (omega arith)) (λ k h. e (suc k) (omega arith)))
 
--- the arrays of a record within its limits have length 8
-resolution-length : (c : Counters) → withinLimits c ≡ true → length (c .resolution) ≡ 8
-unfolding withinLimits groupsWithin
-resolution-length c e =
-    let (a, b) = and-both (between 2 (c .minislots) 8 && between 1 (c .groups) 8 && between 1 (c .next) (c .groups) && leb (c .urgent) 4095 && leb (c .long) 65535) (groupsWithin c) e in
-    let (x, y) = and-both (eqb (length (c .resolution)) 8 && eqb (length (c .opened)) 8 && _) _ b in
-    let (u, v) = and-both (eqb (length (c .resolution)) 8 && eqb (length (c .opened)) 8) _ x in
-    eqb-true (length (c .resolution)) 8 (and-both (eqb (length (c .resolution)) 8) (eqb (length (c .opened)) 8) u .0)
-
 pub first-length : (l : List Station) → ((k : ℕ) → k < length l → stationWithin (stationAt l k) ≡ true) → length (tableCounters l .resolution) ≡ 8
 first-length [] w = refl
-first-length (s ∷ l) w = resolution-length (s .counters) (within-parts s (w zero (omega arith)) .0)
+first-length (s ∷ l) w = arrays-lengths (s .counters) (within-limits (s .counters) (within-parts s (w zero (omega arith)) .0) .arrays) .0
 
 same-slot : (a b : Minislot) → sameMinislot a b ≡ true → a ≡ b
 same-slot a b e =

@@ -1,9 +1,10 @@
 -- A sound table's test is its seven clauses' tests, each true. Assumes nothing.
-use mathlib.Core.Path.{_≡_, refl}
-use mathlib.Core.Bool.{Bool, true, false, _&&_}
+use mathlib.Core.Path.{_≡_}
+use mathlib.Core.Bool.{true, _&&_}
 use mathlib.Core.List.{List}
 use Rattle.rules.specs.declared.Station.{Station}
 use Rattle.rules.specs.declared.Row.{Row}
+use Rattle.rules.proofs.SlotStep.{and-both}
 use Rattle.rules.specs.Soundness.{indexesDistinct, recordsWithin, countersShared, urgentSound, longSound, resolutionSound, wireSound, soundTable}
 
 pub record SoundTests (stations : List Station) (rows : List Row) : Type 0 where
@@ -15,19 +16,15 @@ pub record SoundTests (stations : List Station) (rows : List Row) : Type 0 where
   pub resolution : resolutionSound stations ≡ true
   pub wire : wireSound stations rows ≡ true
 
-last : (a b : Bool) → a && b ≡ true → (a ≡ true) × (b ≡ true)
-last true b e = (refl, e)
-last false b e = (e, cc)
-
 pub sound-tests : (stations : List Station) (wire : List Row) → soundTable stations wire ≡ true → SoundTests stations wire
 unfolding soundTable
 sound-tests s w e =
-    let x6 = last (indexesDistinct s && recordsWithin s && countersShared s && urgentSound s && longSound s && resolutionSound s) (wireSound s w) e in
-    let x5 = last (indexesDistinct s && recordsWithin s && countersShared s && urgentSound s && longSound s) (resolutionSound s) (x6 .0) in
-    let x4 = last (indexesDistinct s && recordsWithin s && countersShared s && urgentSound s) (longSound s) (x5 .0) in
-    let x3 = last (indexesDistinct s && recordsWithin s && countersShared s) (urgentSound s) (x4 .0) in
-    let x2 = last (indexesDistinct s && recordsWithin s) (countersShared s) (x3 .0) in
-    let x1 = last (indexesDistinct s) (recordsWithin s) (x2 .0) in
+    let x6 = and-both (indexesDistinct s && recordsWithin s && countersShared s && urgentSound s && longSound s && resolutionSound s) (wireSound s w) e in
+    let x5 = and-both (indexesDistinct s && recordsWithin s && countersShared s && urgentSound s && longSound s) (resolutionSound s) (x6 .0) in
+    let x4 = and-both (indexesDistinct s && recordsWithin s && countersShared s && urgentSound s) (longSound s) (x5 .0) in
+    let x3 = and-both (indexesDistinct s && recordsWithin s && countersShared s) (urgentSound s) (x4 .0) in
+    let x2 = and-both (indexesDistinct s && recordsWithin s) (countersShared s) (x3 .0) in
+    let x1 = and-both (indexesDistinct s) (recordsWithin s) (x2 .0) in
     record { distinct = x1 .0; within = x1 .1; shared = x2 .1; urgent = x3 .1; long = x4 .1; resolution = x5 .1; wire = x6 .1 }
 
 pub tests-sound : (stations : List Station) (wire : List Row) → SoundTests stations wire → soundTable stations wire ≡ true

@@ -2,14 +2,14 @@
 -- its limits. Assumes nothing.
 use mathlib.Core.Path.{_≡_, refl, sym, ap, subst, _∙_}
 use mathlib.Core.Bool.{Bool, true, false, _&&_}
-use mathlib.Core.List.{List, [], _∷_, _++_, map}
+use mathlib.Core.List.{List, [], _∷_, map}
 use Prim.Native.Nat.{ℕ, zero, suc, _+_, _-_, _≤_, _<_}
 use native.Mathlib.Omega.{arith}
 use native.Mathlib.Nat.{zero-add, suc-add}
-use lib.Dec.{leb, ltb, leb·zero, leb·suc-zero, leb·suc-suc, eqb, eqb·suc-suc}
-use lib.ListN.{length}
-use Rattle.rules.proofs.Census.{total, total-cong, length-total, length-gather, ofBy-ofBy}
-use Rattle.rules.proofs.QueueViews.{shifted-at as shifted-here}
+use lib.Dec.{leb, ltb, leb·zero, leb·suc-zero, leb·suc-suc, eqb}
+use lib.ListN.{length, length-map}
+use Rattle.rules.proofs.Census.{total-cong, length-total, length-gather, ofBy-ofBy}
+use Rattle.rules.proofs.QueueViews.{shifted-at as shifted-here, shifted-plus, place-map}
 use Rattle.rules.proofs.Relation.{Agrees, Same, Fits, Crowded, urgentOf, longOf, resolvingOf}
 use Rattle.rules.proofs.Shared.{Table, gather}
 use Rattle.rules.proofs.Views.{Sender, senderAt, eqb-self, seen, atFirst, shifted, atPlace, run}
@@ -19,7 +19,7 @@ use Rattle.rules.specs.Messages.{Message, Segment, ofBy, of, segment}
 use Rattle.rules.specs.Plain.{Plain}
 use Rattle.rules.specs.Positions.{one, part}
 use Rattle.rules.specs.StationLimits.{Condition, Free, Fresh, Asked, Resolving, Urgent, Long}
-use borrow.Author.Tests.{eqb-true, ne-eqb}
+use borrow.Author.Tests.{eqb-true}
 
 -- whether station k stands at a place, counted from 1: of H, of N, of group g's RQ
 abbrev pub urgentHere : ℕ → ℕ → Condition → List Sender
@@ -72,17 +72,6 @@ census K x f outside each =
     length-gather (λ (z : Sender). z .position) f (λ i k. subst (λ (z : List Sender). ofBy (λ s. s .position) k z ≡ onlyIf (eqb i k) z) (each i) (ofBy-ofBy (λ (s : Sender). s .position) i k x)) K outside
     ∙ sym (length-total (λ s. s .position) K x (λ k l. each k ∙ outside k l) ∙ total-cong K _ _ (λ k. ap length (each k)))
 
--- a place, as a test on its number
-shifted-map {ℓ κ} : {A : Type ℓ} {B : Type κ} (f : A → B) (m : A) (n i : ℕ) → map f (shifted n (atFirst (m ∷ [])) i) ≡ onlyIf (eqb n i) (f m ∷ [])
-shifted-map f m zero zero = refl
-shifted-map f m zero (suc i) = rw (ne-eqb zero (suc i) (λ e. omega arith))
-shifted-map f m (suc n) zero = rw (ne-eqb (suc n) zero (λ e. omega arith))
-shifted-map f m (suc n) (suc i) = shifted-map f m n i ∙ rw (eqb·suc-suc n i)
-
-place-map {ℓ κ} : {A : Type ℓ} {B : Type κ} (f : A → B) (m : A) (n i : ℕ) → map f (atPlace n (atFirst (m ∷ [])) i) ≡ onlyIf (eqb n (suc i)) (f m ∷ [])
-place-map f m zero i = rw (ne-eqb zero (suc i) (λ e. omega arith))
-place-map f m (suc n) i = shifted-map f m n i ∙ rw (eqb·suc-suc n i)
-
 -- a run, as a test on its ends
 run-map : (x : Sender) (m : Message) (l s i : ℕ) → map (λ (y : Segment). x) (run m l s i) ≡ onlyIf (ltb i l) (x ∷ [])
 run-map x m zero s i = rw (leb·suc-zero i)
@@ -127,10 +116,6 @@ crowd-at : (k : ℕ) (q : List (List Message)) (i : ℕ) → ofBy (λ s. s .posi
 crowd-at k [] i = refl
 crowd-at k (x ∷ q) zero = of-tag k x
 crowd-at k (x ∷ q) (suc i) = crowd-at k q i
-
-length-map₀ {ℓ κ} : {A : Type ℓ} {B : Type κ} (f : A → B) (l : List A) → length (map f l) ≡ length l
-length-map₀ f [] = refl
-length-map₀ f (x ∷ l) = ap suc (length-map₀ f l)
 
 length-one {ℓ} : {A : Type ℓ} (q : List A) (i : ℕ) → i < length q → length (seen (λ (x : A). x ∷ []) q i) ≡ 1
 length-one [] i h = absurd (omega arith)
@@ -179,10 +164,6 @@ seen-inside f [] i e l w = let z : _≡_ {A = ℕ} 0 1 = cc in absurd (omega ari
 seen-inside f (x ∷ q) zero e l w = omega arith
 seen-inside f (x ∷ q) (suc i) e l w = omega (arith, seen-inside f q i e l w)
 
-shifted-at {ℓ} : {E : Type ℓ} (n i : ℕ) (v : ℕ → List E) → shifted n v (n + i) ≡ v i
-shifted-at zero i v = rw (zero-add i)
-shifted-at (suc n) i v = rw (suc-add n i) (shifted-at n i v)
-
 run-last : (m : Message) (l s : ℕ) → run m (suc l) s l ≡ segment m (s + l) ∷ []
 run-last m zero s = ap (λ (x : ℕ). segment m x ∷ []) (omega arith)
 run-last m (suc l) s = run-last m l (suc s) ∙ ap (λ (x : ℕ). segment m x ∷ []) (omega arith)
@@ -207,7 +188,7 @@ module _ (S : Start) (p : Plain) (t : Table) (R : Same S p t) where
   inside-of k (Long (suc f) (suc l) s) a =
       let v : Fits S (R .message k) (Long (suc f) (suc l) s) = a .fits in
       let w : f + l < length (p .long) =
-      seen-inside (part k) (p .long) (f + l) (segment (R .message k) (suc (s - suc l) + l)) [] (a .long (f + l) ∙ shifted-at f l (run (R .message k) (suc l) (suc (s - suc l))) ∙ run-last (R .message k) l (suc (s - suc l)))
+      seen-inside (part k) (p .long) (f + l) (segment (R .message k) (suc (s - suc l) + l)) [] (a .long (f + l) ∙ shifted-plus f l (run (R .message k) (suc l) (suc (s - suc l))) ∙ run-last (R .message k) l (suc (s - suc l)))
       in
       omega (arith, R .n, a .some, a .few)
 
@@ -217,16 +198,16 @@ module _ (S : Start) (p : Plain) (t : Table) (R : Same S p t) where
         urgent = λ i l.
             census (length (S .indexes)) (map (λ (m : Message). senderAt (m .station) 0) (seen (λ (m : Message). m ∷ []) (p .urgent) i)) (λ k. urgentHere (suc i) k (t .condition k)) (λ k w. rw (R .outside k w))
             (λ k. one-at k (p .urgent) i ∙ ap (map (λ (m : Message). senderAt k 0)) (R .agrees k .urgent i) ∙ urgent-here k (R .message k) (t .condition k) i)
-            ∙ length-map₀ _ (seen (λ (m : Message). m ∷ []) (p .urgent) i) ∙ length-one (p .urgent) i (rw (R .h) at l);
+            ∙ length-map (seen (λ (m : Message). m ∷ []) (p .urgent) i) (λ (m : Message). senderAt (m .station) 0) ∙ length-one (p .urgent) i (rw (R .h) at l);
         long = λ i l.
             census (length (S .indexes)) (map (λ (m : Segment). senderAt (m .message .station) 0) (seen (λ (m : Segment). m ∷ []) (p .long) i)) (λ k. longHere (suc i) k (t .condition k)) (λ k w. rw (R .outside k w))
             (λ k. part-at k (p .long) i ∙ ap (map (λ (m : Segment). senderAt k 0)) (R .agrees k .long i) ∙ long-here k (R .message k) S (t .condition k) (R .agrees k .fits) i)
-            ∙ length-map₀ _ (seen (λ (m : Segment). m ∷ []) (p .long) i) ∙ length-one (p .long) i (rw (R .n) at l);
+            ∙ length-map (seen (λ (m : Segment). m ∷ []) (p .long) i) (λ (m : Segment). senderAt (m .message .station) 0) ∙ length-one (p .long) i (rw (R .n) at l);
         resolution = λ g i l.
             rw (
               census (length (S .indexes)) (map (λ (m : Message). senderAt (m .station) 0) (seen (λ (x : List Message). x) (p .group g .resolution) i)) (λ k. resolvingHere g (suc i) k (t .condition k)) (λ k w. rw (R .outside k w))
                   (λ k. crowd-at k (p .group g .resolution) i ∙ ap (map (λ (m : Message). senderAt k 0)) (R .agrees k .resolution g i) ∙ resolving-here k (R .message k) g (t .condition k) i),
-              length-map₀ (λ (m : Message). senderAt (m .station) 0) (seen (λ (x : List Message). x) (p .group g .resolution) i),
+              length-map (seen (λ (x : List Message). x) (p .group g .resolution) i) (λ (m : Message). senderAt (m .station) 0),
             )
             (length-crowd (p .group g .resolution) i (rw (R .rq g) at l) (R .crowds g));
         inside = λ k. inside-of k (t .condition k) (R .agrees k);

@@ -1,5 +1,5 @@
 -- A start that goes through: its arguments are within their limits, and the new channel is the start's table with a silent wire. Assumes nothing.
-use mathlib.Core.Path.{_≡_, refl, sym, ap, subst, _∙_}
+use mathlib.Core.Path.{_≡_, refl, sym, ap, _∙_}
 use mathlib.Core.Bool.{Bool, true, false, cond, _&&_}
 use mathlib.Core.List.{List, [], _∷_, map}
 use mathlib.Core.Logic.{by-cases}
@@ -7,34 +7,31 @@ use Prim.Native.Nat.{ℕ, zero, suc, _+_, _-_, _≤_, _<_}
 use native.Mathlib.Omega.{arith}
 use native.Mathlib.Nat.{zero-add}
 use native.Mathlib.Decide.{decLt}
-use lib.Dec.{eqb, leb}
+use lib.Dec.{eqb}
 use lib.ListN.{length, getD, replicate, getD-replicate}
 use borrow.Author.Tests.{eqb-true, leb-true}
 use Rattle.minislot.specs.declared.Minislot.{Minislot}
 use Rattle.minislot.specs.Together.{silent, together}
 use Rattle.rules.specs.declared.Station.{Station}
 use Rattle.rules.specs.declared.StartAnswer.the-variants.{Ready}
-use Rattle.rules.specs.declared.Row.{Row}
 use Rattle.rules.specs.Lists.{each, eachPair}
 use Rattle.rules.specs.Limits.{between}
 use Rattle.rules.specs.Starting.{inRanges}
 use Rattle.rules.specs.StationCalls.{startStation}
 use Rattle.rules.specs.Soundness.{differ}
-use Rattle.rules.specs.ChannelCalls.{Channel, ChannelStarted, blankRow, blankWire, newStations, newChannel, hasStations, isIndex, refusedStart, channelStartOf}
+use Rattle.rules.specs.ChannelCalls.{Channel, blankRow, newChannel, hasStations, isIndex, refusedStart, channelStartOf}
 use Rattle.rules.specs.Calls.{Start, index}
 use Rattle.rules.proofs.Views.{Sender}
-use Rattle.rules.proofs.Shared.{Table, tableStart, collect, gather, askedSender}
+use Rattle.rules.proofs.Shared.{tableStart, collect}
+use Rattle.rules.proofs.LimitLaws.{between-bounds}
 use Rattle.rules.proofs.SlotStep.{and-both}
 use Rattle.rules.proofs.SoundMeans.{all-at, pair-at, not-eq}
-use Rattle.rules.proofs.WireRows.{leaves, minislotRow, Indexes}
-use Rattle.rules.proofs.Walking.{IsStation, AreStations}
+use Rattle.rules.proofs.WireRows.{minislotRow}
+use Rattle.rules.proofs.Walking.{AreStations}
 use Rattle.rules.proofs.Embody.{Embodies, GoodStart}
 
 abbrev startOn : ℕ → ℕ → List ℕ → Start
 startOn m n indexes = record { m = m; n = n; indexes = indexes }
-
-between-le : (a x b : ℕ) → between a x b ≡ true → (a ≤ x) × (x ≤ b)
-between-le a x b e = let (p, q) = and-both (leb a x) (leb x b) e in (leb-true a x p, leb-true x b q)
 
 -- what the four tests say
 good : (before : Channel) (m n : ℕ) (indexes : List ℕ) → inRanges m n ≡ true → (hasStations (before .stations) && eqb (length indexes) (length (before .stations))) ≡ true
@@ -42,9 +39,9 @@ good : (before : Channel) (m n : ℕ) (indexes : List ℕ) → inRanges m n ≡ 
 good before m n indexes e5 e14 e8 e15 =
     let (a, b) = and-both (between 2 m 8) (between 1 n 8) e5 in
     let (c, d) = and-both (hasStations (before .stations)) (eqb (length indexes) (length (before .stations))) e14 in
-    let (m2, m8) = between-le 2 m 8 a in
-    let (n1, n8) = between-le 1 n 8 b in
-    let (k1, k64) = between-le 1 (length (before .stations)) 64 c in
+    let (m2, m8) = between-bounds 2 m 8 a in
+    let (n1, n8) = between-bounds 1 n 8 b in
+    let (k1, k64) = between-bounds 1 (length (before .stations)) 64 c in
     let q : length indexes ≡ length (before .stations) = eqb-true (length indexes) (length (before .stations)) d in
     record {
       m-low = m2;

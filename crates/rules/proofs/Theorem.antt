@@ -1,24 +1,21 @@
 -- DEMAND 3, proved: the relation between plain channel, shared table and records is kept along every list of calls, and the statement is read off it.
 -- Assumes nothing.
 use mathlib.Core.Path.{_≡_, refl, sym, ap, subst, _∙_}
-use mathlib.Core.List.{List, [], _∷_, map}
-use Prim.Native.Nat.{ℕ, zero, suc, _+_, _-_, _≤_, _<_}
+use mathlib.Core.List.{List, [], _∷_}
+use Prim.Native.Nat.{ℕ, suc, _+_, _-_, _≤_, _<_}
 use native.Mathlib.Omega.{arith}
 use native.Mathlib.Nat.{zero-add}
-use lib.ListN.{length, getD, length-map}
-use Rattle.minislot.specs.Together.{carries, silent, together}
-use Rattle.rules.specs.declared.Station.{Station}
-use Rattle.rules.specs.declared.StartAnswer.the-variants.{Ready}
+use lib.ListN.{length, getD}
+use Rattle.minislot.specs.Together.{silent}
 use Rattle.rules.specs.declared.Row.{Row}
-use Rattle.rules.specs.Turns.{Turn}
-use Rattle.rules.specs.StationLimits.{Condition, Long}
+use Rattle.rules.specs.StationLimits.{Long}
 use Rattle.rules.specs.Serving.{waiting}
 use Rattle.rules.specs.SoundMeaning.{stationAt}
-use Rattle.rules.specs.ChannelCalls.{Channel, blankRow, newChannel, channelStartOf, channelCall, channelAfter, channelAnswers}
-use Rattle.rules.specs.Calls.{Start, index, Call, Offer, Slot, Answer, Went}
-use Rattle.rules.specs.Messages.{Message, Segment}
+use Rattle.rules.specs.ChannelCalls.{Channel, newChannel, channelCall, channelAfter, channelAnswers}
+use Rattle.rules.specs.Calls.{Start, index, Call, Offer, Slot}
+use Rattle.rules.specs.Messages.{Segment}
 use Rattle.rules.specs.Plain.{Plain, plainStart, plainCall, plainAfter, plainAnswers}
-use Rattle.rules.specs.Demand3.{requestOf, askingAt, noMessage, longAt, takenAt, countedPlaces, SendersAre, SenderRule, CountersShow, MessageShows, Demand3, Demand3Holds}
+use Rattle.rules.specs.Demand3.{noMessage, longAt, takenAt, SendersAre, SenderRule, MessageShows, Demand3, Demand3Holds}
 use Rattle.rules.proofs.Views.{senderAt, dataFrom, seen}
 use Rattle.rules.proofs.Shared.{Table, tableStart, tableCall, tableAfter, tableAnswers, gather, askedSender}
 use Rattle.rules.proofs.Relation.{Same, Fits}
@@ -29,11 +26,11 @@ use Rattle.rules.proofs.ListStep.{run-same, run-answers, Shown, shown, 
 use Rattle.rules.proofs.Histories.{history-of}
 use Rattle.rules.proofs.WireRows.{leaves, row-at}
 use Rattle.rules.proofs.Walking.{IsStation}
-use Rattle.rules.proofs.Embody.{Embodies, Embodied, GoodStart}
-use Rattle.rules.proofs.EmbodyCalls.{counted, call-embodied}
-use Rattle.rules.proofs.SoundKept.{counters-same, same-length, is-at, meaning, stays-sound}
+use Rattle.rules.proofs.Embody.{Embodies, Embodied, GoodStart, same-length}
+use Rattle.rules.proofs.EmbodyCalls.{own-heard, counted, call-embodied}
+use Rattle.rules.proofs.SoundKept.{counters-same, is-at, meaning, stays-sound}
 use Rattle.rules.proofs.Starts.{started, new-embodies}
-use Rattle.rules.proofs.Following.{member, serial-at, station-of, waiting-sum, entry-at, wire-shows, sender-rule, never-comes}
+use Rattle.rules.proofs.Following.{member, serial-at, station-of, waiting-sum, entry-at, wire-shows, sender-rule, never-comes, books-taken, books-delivered}
 
 module _ (S : Start) (G : GoodStart S) where
   ml : 1 ≤ S .m
@@ -95,7 +92,7 @@ module _ (S : Start) (G : GoodStart S) where
     told = run-told calls (plainStart S) tableStart begun first (new-embodies S) ∙ sym (run-answers S ml calls (plainStart S) tableStart first)
 
     as-many : length (after .stations) ≡ length (S .indexes)
-    as-many = same-length S G plain table R after E
+    as-many = same-length S table after E
 
     is : (k : ℕ) → k < length (S .indexes) → IsStation S table k (stationAt (after .stations) k)
     is k h = is-at S G plain table R after E k (omega (arith, as-many))
@@ -148,10 +145,13 @@ module _ (S : Start) (G : GoodStart S) where
           never14 = rw told (never-comes 14 refl refl refl refl refl refl S (plainStart S) calls);
           never18 = rw told (never-comes 18 refl refl refl refl refl refl S (plainStart S) calls);
           never12 = rw told (never-comes 12 refl refl refl refl refl refl S (plainStart S) calls);
+          hears = λ k h. own-heard S G plain table R after E (stays-sound S G plain table R after E) k (stationAt (after .stations) k) h (is k h);
           sound = meaning S G plain table R after E;
           senders = run-senders calls (plainStart S) tableStart begun first (new-embodies S);
           apart = λ i h. serial-at (plain .taken) 0 (R .numbered) i h ∙ zero-add i;
           messages = message-shows;
+          taken = rw told (sym (books-taken S calls (plainStart S) ∙ zero-add _));
+          delivered = rw told (sym (books-delivered S calls (plainStart S) ∙ zero-add _));
           ledger =
               ledger-all S plain table R
               ∙ ap (λ (n : ℕ). length (plain .history) + n)

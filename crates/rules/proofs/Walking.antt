@@ -1,31 +1,28 @@
 -- A station's record beside the shared table: its slot, from its own counters alone, makes it the record of the table's next state, and sends what the
 -- table says. Assumes nothing.
-use mathlib.Core.Path.{_≡_, refl, sym, ap, subst, _∙_}
-use mathlib.Core.Bool.{Bool, true, false, cond, _&&_}
-use mathlib.Core.List.{List, [], _∷_, map}
+use mathlib.Core.Path.{_≡_, refl, ap, _∙_}
+use mathlib.Core.Bool.{Bool, true, false, cond}
+use mathlib.Core.List.{List, [], _∷_}
 use mathlib.Core.Logic.{_≢_}
-use Prim.Native.Nat.{ℕ, zero, suc, _+_, _-_, _≤_, _<_}
+use Prim.Native.Nat.{ℕ, suc, _-_, _≤_, _<_}
 use native.Mathlib.Omega.{arith}
-use lib.Dec.{eqb, leb}
+use lib.Dec.{eqb}
 use lib.ListN.{length, getD, set, length-set}
 use lib.Seq.{getD-set-same, getD-set-other}
-use borrow.Author.Tests.{eqb-true, eqb-false, ne-eqb, le-leb}
+use borrow.Author.Tests.{eqb-true, eqb-false}
 use Rattle.minislot.specs.declared.Feedback.{Feedback}
 use Rattle.minislot.specs.Row.{readings, firstNumber, feedbacks, weight}
-use Rattle.rules.specs.declared.Counters.{Counters}
 use Rattle.rules.specs.declared.Station.{Station}
-use Rattle.rules.specs.declared.StationSlot.{StationSlot}
 use Rattle.rules.specs.declared.SlotAnswer.the-variants.{Went as WentSlot}
 use Rattle.rules.specs.declared.Places.{Places}
 use Rattle.rules.specs.Limits.{between}
 use Rattle.rules.specs.Queueing.{queuedRow, immediate, placesOf, immediateOf, placesAfter, passes}
 use Rattle.rules.specs.Turns.{turnOf, isOpen}
-use Rattle.rules.specs.Falling.{fallen, following}
+use Rattle.rules.specs.Falling.{fallen}
 use Rattle.rules.specs.Listening.{hasRow}
 use Rattle.rules.specs.StationLimits.{Condition, stationWithin}
 use Rattle.rules.specs.Settling.{settledOf}
 use Rattle.rules.specs.OwnHearing.{hearsItself}
-use Rattle.rules.specs.Requesting.{requested}
 use Rattle.rules.specs.Serving.{moved}
 use Rattle.rules.specs.StationCalls.{requestMinislot, requesting, segmentSent, conditionAfter, stationAfter, heardSlotOf, slotOf}
 use Rattle.rules.specs.Calls.{Start, index}

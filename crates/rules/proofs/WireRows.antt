@@ -1,20 +1,17 @@
 -- A row of the wire: what the stations asked in each of its minislots left there, and what is read of it. By minislot's law of senders.
 -- Assumes nothing.
-use mathlib.Core.Path.{_≡_, refl, sym, ap, subst, _∙_}
-use mathlib.Core.Bool.{Bool, true, false}
+use mathlib.Core.Path.{_≡_, refl, ap, _∙_}
 use mathlib.Core.List.{List, [], _∷_, _++_, map}
-use mathlib.Core.Logic.{_⊎_, inl, inr, _≢_}
+use mathlib.Core.Logic.{_⊎_, inl, inr}
 use Prim.Native.Nat.{ℕ, zero, suc, _+_, _≤_, _<_}
 use native.Mathlib.Omega.{arith}
 use lib.ListN.{length, take, getD}
 use Rattle.minislot.specs.declared.Minislot.{Minislot}
 use Rattle.minislot.specs.declared.Feedback.{Feedback}
-use Rattle.minislot.specs.declared.Feedback.the-variants.{Empty, Single, Collide}
-use Rattle.minislot.specs.declared.Reading.{Reading}
 use Rattle.minislot.specs.declared.Reading.the-variants.{Heard}
 use Rattle.minislot.specs.Reading.{readingOf}
 use Rattle.minislot.specs.Row.{readings, firstNumber, feedbacks}
-use Rattle.minislot.specs.Together.{Request, carries, silent, together, spoken, Apart, Proper}
+use Rattle.minislot.specs.Together.{Request, carries, together, spoken, Apart, Proper}
 use Rattle.minislot.proofs.Senders.{together-reads}
 use Rattle.rules.specs.Hearing.{wordsOf, countsOf}
 use Rattle.rules.proofs.Views.{Sender, senderAt}

@@ -4,10 +4,11 @@
 use mathlib.Core.Path.{_≡_}
 use mathlib.Core.Bool.{Bool, true, false}
 use mathlib.Core.List.{List, [], _∷_, map}
-use Prim.Native.Nat.{ℕ, zero, suc, _+_, _-_, _≤_, _<_}
+use Prim.Native.Nat.{ℕ, _+_, _-_, _≤_, _<_}
 use lib.Dec.{eqb}
 use lib.ListN.{length, getD}
 use Rattle.minislot.specs.Together.{Request, carries, silent, together}
+use Rattle.minislot.specs.declared.Feedback.{Feedback}
 use Rattle.minislot.specs.Row.{readings, feedbacks}
 use Rattle.rules.specs.declared.Places.{Places}
 use Rattle.rules.specs.declared.Station.{Station}
@@ -16,11 +17,12 @@ use Rattle.rules.specs.Lists.{sumOf, countOf}
 use Rattle.rules.specs.Hearing.{wordsOf, countsOf}
 use Rattle.rules.specs.Queueing.{placesAfter}
 use Rattle.rules.specs.Turns.{Turn}
-use Rattle.rules.specs.StationLimits.{Condition, Long}
+use Rattle.rules.specs.StationLimits.{Long}
+use Rattle.rules.specs.OwnHearing.{hearsItself}
 use Rattle.rules.specs.Serving.{waiting}
 use Rattle.rules.specs.Soundness.{tableCounters}
 use Rattle.rules.specs.SoundMeaning.{stationAt, Sound}
-use Rattle.rules.specs.ChannelCalls.{Channel, ChannelStarted, blankRow, channelStartOf, heardRow, channelCall, channelAfter, channelAnswers}
+use Rattle.rules.specs.ChannelCalls.{Channel, blankRow, channelStartOf, heardRow, channelCall, channelAfter, channelAnswers}
 use Rattle.rules.specs.Calls.{Start, index, Call, Offer, Slot, Answer, Refused, Taken, Went}
 use Rattle.rules.specs.Messages.{Message, Segment, segmentsFrom, deliveredFor}
 use Rattle.rules.specs.Plain.{Plain, plainStart, plainAfter, plainAnswers, slotSum}
@@ -52,9 +54,23 @@ isRefusal n (Refused x) = eqb x n
 isRefusal n (Taken t) = false
 isRefusal n (Went turn senders index segment delivered) = false
 
--- the lengths of the queues once a slot's row is counted
+-- the slots that an answer says were taken, and delivered
+abbrev pub takenIn : Answer → ℕ
+takenIn (Refused x) = 0
+takenIn (Taken t) = t
+takenIn (Went turn senders index segment delivered) = 0
+
+abbrev pub deliveredIn : Answer → ℕ
+deliveredIn (Refused x) = 0
+deliveredIn (Taken t) = 0
+deliveredIn (Went turn senders index segment delivered) = delivered
+
+-- what the next slot hears, and the lengths of the queues once that row is counted
+abbrev pub feedbackHeard : Channel → List Feedback
+feedbackHeard ch = feedbacks (readings (wordsOf (heardRow ch)) (countsOf (heardRow ch)))
+
 abbrev pub countedPlaces : Channel → Places
-countedPlaces ch = placesAfter (tableCounters (ch .stations)) (feedbacks (readings (wordsOf (heardRow ch)) (countsOf (heardRow ch))))
+countedPlaces ch = placesAfter (tableCounters (ch .stations)) (feedbackHeard ch)
 
 -- outside open access exactly one sender if either transmission queue holds a place, and none otherwise
 pub record SendersAre (c : Places) (senders : ℕ) : Type 0 where
@@ -110,6 +126,8 @@ pub record Demand3 (S : Start) (begun : Channel) (calls : List Call) : Type 0 wh
   pub never14 : countOf (isRefusal 14) (channelAnswers begun calls) ≡ 0
   pub never18 : countOf (isRefusal 18) (channelAnswers begun calls) ≡ 0
   pub never12 : countOf (isRefusal 12) (channelAnswers begun calls) ≡ 0
+  -- for in the next slot too each station hears itself as it must
+  pub hears : (k : ℕ) → k < length (S .indexes) → hearsItself (stationAt (channelAfter begun calls .stations) k) (wordsOf (heardRow (channelAfter begun calls))) (feedbackHeard (channelAfter begun calls)) ≡ true
   -- every urgent place has one station; the long queue is divided without gap or overlap; every place in a resolution queue has two stations or more
   pub sound : Sound (channelAfter begun calls .stations) (channelAfter begun calls .wire)
   -- of each slot that went through: outside open access exactly one sender if either transmission queue holds a place once its row is counted, else none
@@ -122,6 +140,9 @@ pub record Demand3 (S : Start) (begun : Channel) (calls : List Call) : Type 0 wh
   -- in total taken = delivered + waiting: delivered counted from the history, waiting from the stations' conditions
   pub ledger : slotSum (plainAfter S (plainStart S) calls .taken)
       ≡ length (plainAfter S (plainStart S) calls .history) + sumOf (λ (s : Station). waiting (s .condition)) (channelAfter begun calls .stations)
+  -- and the answers' own sums are these: all that the offers took, all that the slots delivered
+  pub taken : sumOf takenIn (channelAnswers begun calls) ≡ slotSum (plainAfter S (plainStart S) calls .taken)
+  pub delivered : sumOf deliveredIn (channelAnswers begun calls) ≡ length (plainAfter S (plainStart S) calls .history)
 
 -- for every channel before, every start that goes through, every list of calls
 abbrev pub Demand3Holds : Type 0

@@ -14,7 +14,7 @@ use Rattle.rules.specs.declared.Listened.{Listened}
 use Rattle.rules.specs.declared.ListenAnswer.{ListenAnswer}
 use Rattle.rules.specs.declared.ListenAnswer.the-variants.{Went}
 use Rattle.rules.specs.Starting.{startCounters}
-use Rattle.rules.specs.Queueing.{placesAfter, immediateOf}
+use Rattle.rules.specs.Queueing.{placesAfter}
 use Rattle.rules.specs.Turns.{UrgentTurn, LongTurn, ResolveTurn, OpenTurn}
 use Rattle.rules.specs.Listening.{listeningOf, listenOf}
 

@@ -1,5 +1,5 @@
 -- Steps 4 and 5 of the counters: which fall, and the next group (paper 01, "One slot of group g", 4 and 5). Assumes nothing.
-use mathlib.Core.Bool.{Bool, true, false, cond}
+use mathlib.Core.Bool.{cond}
 use Prim.Native.Nat.{ℕ, _+_, _-_}
 use lib.Dec.{eqb}
 use lib.ListN.{set}

@@ -23,6 +23,7 @@ pub mod Messages
 pub mod Plain
 pub mod Positions
 pub mod Demand3
+pub mod RowAccount
 pub mod Recorded
 pub mod Changes
 pub mod Edges

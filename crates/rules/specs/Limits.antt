@@ -1,5 +1,5 @@
 -- A record of counters within its limits (paper 01, "Counters", and the counters' part of "A record is within its limits"). Assumes nothing.
-use mathlib.Core.Bool.{Bool, true, false, _&&_, cond}
+use mathlib.Core.Bool.{Bool, true, _&&_, cond}
 use Prim.Native.Nat.{ℕ}
 use lib.Dec.{leb, ltb, eqb}
 use lib.ListN.{length}

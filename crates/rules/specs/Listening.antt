@@ -1,7 +1,7 @@
 -- Listening (paper 01, "Operations and their numbers"): 18, 6, the first bad minislot's 1 to 4, 7; else the turn and the record after steps 1 to 5.
 -- A refusal leaves the record as it was. Assumes nothing.
-use mathlib.Core.Bool.{Bool, true, false, _&&_, cond}
-use mathlib.Core.List.{List, [], _∷_}
+use mathlib.Core.Bool.{Bool, _&&_, cond}
+use mathlib.Core.List.{List}
 use Prim.Native.Nat.{ℕ}
 use lib.Dec.{eqb}
 use lib.ListN.{length}
@@ -10,7 +10,6 @@ use Rattle.minislot.specs.declared.Reading.{Reading}
 use Rattle.minislot.specs.Row.{readings, firstNumber, feedbacks}
 use Rattle.rules.specs.declared.Counters.{Counters}
 use Rattle.rules.specs.declared.Listened.{Listened}
-use Rattle.rules.specs.declared.ListenAnswer.{ListenAnswer}
 use Rattle.rules.specs.declared.ListenAnswer.the-variants.{Went, Refused}
 use Rattle.rules.specs.Limits.{withinLimits}
 use Rattle.rules.specs.Queueing.{placesAfter, passes}

@@ -1,7 +1,7 @@
 -- Tests and sums over a list, as the rules of a table use them. Assumes nothing.
 use mathlib.Core.Bool.{Bool, true, false, _&&_, cond}
 use mathlib.Core.List.{List, [], _∷_, _++_}
-use Prim.Native.Nat.{ℕ, zero, suc, _+_}
+use Prim.Native.Nat.{ℕ, _+_}
 
 module _ {ℓ} {A : Type ℓ} where
   -- every element passes a test

@@ -1,6 +1,6 @@
 -- THE PLAIN CHANNEL (paper 01, "The plain channel"): queues of messages and of segments, fed the start's m, n and indexes and each call's arguments, nothing
 -- from table or wire. Assumes nothing.
-use mathlib.Core.Bool.{Bool, true, false, not, _&&_, _||_, cond}
+use mathlib.Core.Bool.{Bool, true, false, not, _&&_, cond}
 use mathlib.Core.List.{List, [], _∷_, _++_, map}
 use mathlib.Core.Option.{Option, none, some}
 use Prim.Native.Nat.{ℕ, zero, suc, _+_, _-_}

@@ -1,8 +1,8 @@
 -- A station's condition as the plain channel shows it (paper 01, "Demand 3's list": "its condition its message's: fresh, asked, or its position in its queue
 -- (a stretch: its segments there); free if none waits"): a search of every queue. Assumes nothing.
-use mathlib.Core.List.{List, [], _∷_, _++_}
+use mathlib.Core.List.{List, [], _∷_}
 use mathlib.Core.Option.{Option, none, some}
-use Prim.Native.Nat.{ℕ, zero, suc, _+_}
+use Prim.Native.Nat.{ℕ, zero, suc}
 use lib.Dec.{eqb}
 use lib.ListN.{length}
 use Rattle.rules.specs.Lists.{onlyIf}

@@ -1,9 +1,9 @@
 -- A sound table (paper 01, "The channel"), clause by clause, each a test that takes no longer for longer queues; and their conjunction (refusal 18).
 -- That each test says what the paper's clause says is proved in proofs/SoundMeaning. Assumes nothing.
 use mathlib.Core.Bool.{Bool, true, false, not, _&&_, _||_, cond, Bool·beq}
-use mathlib.Core.List.{List, [], _∷_, _++_, map}
-use Prim.Native.Nat.{ℕ, zero, suc, _+_}
-use lib.Dec.{leb, ltb, eqb}
+use mathlib.Core.List.{List, [], _∷_, map}
+use Prim.Native.Nat.{ℕ, suc, _+_}
+use lib.Dec.{leb, eqb}
 use lib.ListN.{length, getD}
 use Rattle.minislot.specs.declared.Minislot.{Minislot}
 use Rattle.minislot.specs.Together.{Request, carries, together}
@@ -12,7 +12,6 @@ use Rattle.rules.specs.declared.Station.{Station}
 use Rattle.rules.specs.declared.Row.{Row}
 use Rattle.rules.specs.Lists.{each, eachPair, sumOf, countOf, onlyIf, gatherOf}
 use Rattle.listlaws.specs.Every.{everyFrom}
-use Rattle.rules.specs.Limits.{between}
 use Rattle.rules.specs.StationLimits.{Condition, Free, Fresh, Asked, Resolving, Urgent, Long, stationWithin}
 use Rattle.rules.specs.StationCalls.{noStation}
 

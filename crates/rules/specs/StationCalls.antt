@@ -1,12 +1,11 @@
 -- Starting a station, offering it a message, and its slot (paper 01, "Operations and their numbers"). A refusal leaves the record as it was.
 -- Assumes nothing.
-use mathlib.Core.Bool.{Bool, true, false, not, _&&_, cond}
+use mathlib.Core.Bool.{Bool, true, false, cond}
 use mathlib.Core.List.{List}
 use Prim.Native.Nat.{ℕ}
 use lib.Dec.{leb, eqb}
 use Rattle.message.specs.Message.{fitsMessage, slotsFor}
 use Rattle.minislot.specs.declared.Feedback.{Feedback}
-use Rattle.minislot.specs.declared.Reading.{Reading}
 use Rattle.minislot.specs.Row.{readings, firstNumber, feedbacks}
 use Rattle.rules.specs.declared.Station.{Station}
 use Rattle.rules.specs.declared.StationStarted.{StationStarted}

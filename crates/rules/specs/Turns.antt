@@ -1,6 +1,5 @@
 -- Step 2: the turn, and the Open mark (paper 01, "One slot of group g", 2). Assumes nothing.
 use mathlib.Core.Bool.{Bool, true, false, cond}
-use Prim.Native.Nat.{ℕ}
 use lib.Dec.{ltb}
 use Rattle.rules.specs.declared.Places.{Places}
 pub use Rattle.rules.specs.declared.Turn.{Turn}

@@ -1,0 +1,292 @@
+-- Demand 2's account of the row, for every sound table: the requests that the stations send in a minislot have different indexes and a slot or more, so what
+-- they leave together reads as it should. Assumes nothing.
+use mathlib.Core.Path.{_≡_, refl, sym, ap, subst, _∙_}
+use mathlib.Core.Bool.{Bool, true, false, not, cond, _&&_, false≢true}
+use mathlib.Core.List.{List, [], _∷_, _++_, map}
+use mathlib.Core.Logic.{_≢_, _⊎_, inl, inr}
+use Prim.Native.Nat.{ℕ, zero, suc, _+_, _-_, _≤_, _<_}
+use native.Mathlib.Omega.{arith}
+use lib.Dec.{eqb, leb}
+use lib.ListN.{length, getD, set}
+use lib.Seq.{getD-set-same}
+use borrow.Author.Tests.{eqb-true, leb-true}
+use Rattle.minislot.specs.declared.Minislot.{Minislot}
+use Rattle.minislot.specs.declared.Feedback.{Feedback}
+use Rattle.minislot.specs.declared.Feedback.the-variants.{Empty, Single, Collide}
+use Rattle.minislot.specs.Row.{readings, firstNumber, feedbacks}
+use Rattle.minislot.specs.Reading.{readingOf}
+use Rattle.minislot.specs.Together.{Request, carries, silent, together, Apart, Proper}
+use Rattle.minislot.proofs.Senders.{together-reads}
+use Rattle.rules.specs.declared.Counters.{Counters}
+use Rattle.rules.specs.declared.Station.{Station}
+use Rattle.rules.specs.declared.StationSlot.{StationSlot}
+use Rattle.rules.specs.declared.SlotAnswer.{SlotAnswer}
+use Rattle.rules.specs.declared.SlotAnswer.the-variants.{Went as WentSlot, Refused as RefusedSlot}
+use Rattle.rules.specs.declared.Places.{Places}
+use Rattle.rules.specs.declared.Row.{Row}
+use Rattle.rules.specs.Lists.{each, eachPair, onlyIf}
+use Rattle.rules.specs.Limits.{between, withinLimits}
+use Rattle.rules.specs.Hearing.{wordsOf, countsOf}
+use Rattle.rules.specs.Queueing.{placesAfter, immediateOf, placesOf, passes}
+use Rattle.rules.specs.Turns.{Turn, UrgentTurn, LongTurn, ResolveTurn, OpenTurn, turnOf}
+use Rattle.rules.specs.Listening.{hasRow}
+use Rattle.rules.specs.StationLimits.{Condition, Free, Fresh, Asked, Resolving, Urgent, Long, isTotal, conditionWithin, stationWithin}
+use Rattle.rules.specs.Settling.{standsAlone, standsAfter, placesBefore, feedbackAt, settledBy, settledOf}
+use Rattle.rules.specs.OwnHearing.{hearsItself}
+use Rattle.rules.specs.Requesting.{waitsIn, requests, requested, totalOf}
+use Rattle.rules.specs.Serving.{moved}
+use Rattle.rules.specs.StationCalls.{requestMinislot, requesting, conditionAfter, segmentSent, stationAfter, heardSlotOf, slotOf, refusedSlot}
+use Rattle.rules.specs.Soundness.{otherIndex, indexesDistinct, recordsWithin, tableCounters, soundTable}
+use Rattle.rules.specs.ChannelCalls.{Channel, ChannelResult, blankRow, hasStations, refused, heardRow, slotsOf, requestIn, requestsIn, newRow, slotThrough, channelSlotOf}
+use Rattle.rules.specs.Calls.{Went}
+use Rattle.rules.specs.SoundMeaning.{stationAt, Sound}
+use Rattle.rules.specs.RowAccount.{RowAccount, RowAccountHolds}
+use Rattle.rules.proofs.SlotStep.{and-both}
+use Rattle.rules.proofs.LimitLaws.{within-limits}
+use Rattle.rules.proofs.SoundTests.{sound-tests}
+use Rattle.rules.proofs.SoundMeans.{not-eq, sound-says}
+
+-- ---- one station: who requests has a message of a slot or more, and keeps its total
+
+total-kept : (turn : Turn) (r g pick : ℕ) (c : Condition) → requests r g c ≡ true → totalOf (moved turn (requested r g pick c)) ≡ totalOf c
+unfolding requests requested moved
+total-kept turn r g pick Free e = cc
+total-kept turn r g pick (Fresh t) e = rw e (go turn)
+  where
+    go : (turn : Turn) → totalOf (moved turn (Asked g pick t)) ≡ t
+    go UrgentTurn = refl
+    go LongTurn = refl
+    go ResolveTurn = refl
+    go OpenTurn = refl
+total-kept turn r g pick (Asked h j t) e = cc
+total-kept turn r g pick (Resolving h i t) e = let (a, b) = and-both (waitsIn r g h) (eqb i 1) e in rw (a, b) (go turn)
+  where
+    go : (turn : Turn) → totalOf (moved turn (Asked g pick t)) ≡ t
+    go UrgentTurn = refl
+    go LongTurn = refl
+    go ResolveTurn = refl
+    go OpenTurn = refl
+total-kept turn r g pick (Urgent i) e = cc
+total-kept turn r g pick (Long f l t) e = cc
+
+some-total : (t : ℕ) → isTotal t ≡ true → 1 ≤ t
+some-total t e = leb-true 1 t (and-both (leb 1 t) (leb t 255) e .0)
+
+alone-silent : (r g : ℕ) (b o : Bool) (p : Places) (t : ℕ) → requests r g (standsAlone b o p t) ≡ true → 1 ≤ totalOf (standsAlone b o p t)
+unfolding requests
+alone-silent r g true true p t e = absurd (false≢true e)
+alone-silent r g false true p t e = absurd (false≢true e)
+alone-silent r g b false p t e = absurd (false≢true e)
+
+after-total : (r g h : ℕ) (b : Bool) (p : Places) (f : Feedback) (t : ℕ) → 1 ≤ t → requests r g (standsAfter b h p f t) ≡ true → 1 ≤ totalOf (standsAfter b h p f t)
+unfolding requests
+after-total r g h b p Empty t lo e = absurd (false≢true e)
+after-total r g h b p (Single i c) t lo e = alone-silent r g b (eqb c 1) p t e
+after-total r g h b p Collide t lo e = lo
+
+settled-total : (c : Counters) (r g : ℕ) (b : Bool) (p : Places) (row : List Feedback) (k : Condition) → conditionWithin c k ≡ true
+    → requests r g (settledBy b g p row k) ≡ true → 1 ≤ totalOf (settledBy b g p row k)
+unfolding requests settledBy conditionWithin
+settled-total c r g b p row Free w e = absurd (false≢true e)
+settled-total c r g b p row (Fresh t) w e = some-total t w
+settled-total c r g b p row (Asked h j t) w e = go (eqb h g) e
+  where
+    lo : 1 ≤ t
+    lo = some-total t (and-both (between 1 h (c .groups) && between 1 j (c .minislots)) (isTotal t) w .1)
+
+    go : (x : Bool) → requests r g (cond x (standsAfter b g (placesBefore b p row j) (feedbackAt row j) t) (Asked h j t)) ≡ true
+        → 1 ≤ totalOf (cond x (standsAfter b g (placesBefore b p row j) (feedbackAt row j) t) (Asked h j t))
+    go true e = after-total r g g b (placesBefore b p row j) (feedbackAt row j) t lo e
+    go false e = lo
+settled-total c r g b p row (Resolving h i t) w e =
+    some-total t (and-both (between 1 h (c .groups) && _) (isTotal t) w .1)
+settled-total c r g b p row (Urgent i) w e = absurd (false≢true e)
+settled-total c r g b p row (Long f l t) w e = absurd (false≢true e)
+
+-- ---- one station's slot: its index, and a total of one or more with a request
+
+abbrev Sends : SlotAnswer → Condition → Type 0
+Sends (WentSlot turn minislot segment) k = 1 ≤ minislot → 1 ≤ totalOf k
+Sends (RefusedSlot n) k = Unit {0}
+
+pub record Fair (s : Station) (r : StationSlot) : Type 0 where
+  pub index : r .station .index ≡ s .index
+  pub sends : Sends (r .answer) (r .station .condition)
+
+fair-if : (s : Station) (b : Bool) (x y : StationSlot) → (b ≡ true → Fair s x) → Fair s y → Fair s (cond b x y)
+fair-if s true x y p q = p refl
+fair-if s false x y p q = q
+
+fair-refused : (s : Station) (n : ℕ) → Fair s (refusedSlot s n)
+fair-refused s n = record { index = refl; sends = tt }
+
+within-parts : (s : Station) → stationWithin s ≡ true → (s .index < 924) × (conditionWithin (s .counters) (s .condition) ≡ true)
+unfolding stationWithin
+within-parts s w =
+    let (a, b) = and-both (withinLimits (s .counters) && leb (s .index) 923) (conditionWithin (s .counters) (s .condition)) w in
+    let c : s .index ≤ 923 = leb-true (s .index) 923 (and-both (withinLimits (s .counters)) (leb (s .index) 923) a .1) in
+    (omega arith, b)
+
+pub slot-fair : (s : Station) (words counts : List ℕ) (pick : ℕ) → Fair s (slotOf s words counts pick)
+unfolding slotOf heardSlotOf stationAfter
+slot-fair s words counts pick =
+    fair-if s (stationWithin s) _ _
+    (λ w.
+    fair-if s (hasRow (s .counters .minislots) words counts) _ _
+    (λ a.
+    fair-if s (between 1 pick (s .counters .minislots)) _ _
+    (λ b.
+    fair-if s (eqb (firstNumber (readings words counts)) 0) _ _
+    (λ c. heard (feedbacks (readings words counts)) w)
+    (fair-refused s (firstNumber (readings words counts))))
+    (fair-refused s 11))
+    (fair-refused s 6))
+    (fair-refused s 18)
+  where
+    through : (row : List Feedback) → stationWithin s ≡ true
+        → Fair s (record { answer = WentSlot (turnOf (placesAfter (s .counters) row)) (requestMinislot (requesting s row) pick) (segmentSent s row); station = stationAfter s row pick })
+    through row w = record { index = refl; sends = λ lo. go (requesting s row) refl lo }
+      where
+        go : (b : Bool) → requesting s row ≡ b → 1 ≤ requestMinislot b pick → 1 ≤ totalOf (conditionAfter s row pick)
+        go true e lo =
+            rw (total-kept (turnOf (placesAfter (s .counters) row)) (placesAfter (s .counters) row .resolution) (s .counters .next) pick (settledOf (s .counters) row (s .condition)) e)
+            (settled-total (s .counters) (placesAfter (s .counters) row .resolution) (s .counters .next) (immediateOf (s .counters) row) (placesOf (s .counters)) row (s .condition) (within-parts s w .1) e)
+        go false e lo = absurd (omega arith)
+
+    heard : (row : List Feedback) → stationWithin s ≡ true → Fair s (heardSlotOf s words row pick)
+    heard row w = go (passes (placesAfter (s .counters) row)) (hearsItself s words row)
+      where
+        go : (a b : Bool)
+            → Fair s (cond a (refusedSlot s 7) (cond b (record { answer = WentSlot (turnOf (placesAfter (s .counters) row)) (requestMinislot (requesting s row) pick) (segmentSent s row); station = stationAfter s row pick }) (refusedSlot s 12)))
+        go true b = fair-refused s 7
+        go false true = through row w
+        go false false = fair-refused s 12
+
+-- ---- all stations
+
+abbrev requestAs : ℕ → ℕ → Request
+requestAs i v = record { index = i; total = v }
+
+module _ (words counts : List ℕ) (j : ℕ) (lo : 1 ≤ j) where
+  -- a station's request in minislot j
+  one : (s : Station) (r : StationSlot) → Fair s r → (requestIn j r (r .answer) ≡ []) ⊎ ((v : ℕ) × (1 ≤ v) × (requestIn j r (r .answer) ≡ requestAs (s .index) v ∷ []))
+  one s r f = go (r .answer) (f .sends)
+    where
+      go : (a : SlotAnswer) → Sends a (r .station .condition) → (requestIn j r a ≡ []) ⊎ ((v : ℕ) × (1 ≤ v) × (requestIn j r a ≡ requestAs (s .index) v ∷ []))
+      go (WentSlot turn minislot segment) h = at (eqb minislot j) refl
+        where
+          at : (b : Bool) → eqb minislot j ≡ b
+              → (onlyIf b (requestAs (r .station .index) (totalOf (r .station .condition)) ∷ []) ≡ [])
+              ⊎ ((v : ℕ) × (1 ≤ v) × (onlyIf b (requestAs (r .station .index) (totalOf (r .station .condition)) ∷ []) ≡ requestAs (s .index) v ∷ []))
+          at true e =
+              let w : minislot ≡ j = eqb-true minislot j e in
+              inr (totalOf (r .station .condition), h (omega arith), ap (λ (i : ℕ). requestAs i (totalOf (r .station .condition)) ∷ []) (f .index))
+          at false e = inl refl
+      go (RefusedSlot n) h = inl refl
+
+  apart-from : (i : ℕ) (l : List Station) (picks : List ℕ) → each (λ (b : Station). not (eqb i (b .index))) l ≡ true → Apart i (requestsIn j (slotsOf words counts l picks))
+  apart-from i [] picks e = tt
+  apart-from i (s ∷ l) [] e = tt
+  apart-from i (s ∷ l) (x ∷ picks) e =
+      let (a, b) = and-both (not (eqb i (s .index))) (each (λ (b : Station). not (eqb i (b .index))) l) e in
+      add (requestIn j (slotOf s words counts x) (slotOf s words counts x .answer)) (one s (slotOf s words counts x) (slot-fair s words counts x)) (not-eq i (s .index) a) (apart-from i l picks b)
+    where
+      add : (y : List Request) → (y ≡ []) ⊎ ((v : ℕ) × (1 ≤ v) × (y ≡ requestAs (s .index) v ∷ [])) → i ≢ s .index → Apart i (requestsIn j (slotsOf words counts l picks))
+          → Apart i (y ++ requestsIn j (slotsOf words counts l picks))
+      add y (inl q) ne ih = rw q ih
+      add y (inr (v, lo, q)) ne ih = rw q ((λ w. ne (sym w)), ih)
+
+  proper : (l : List Station) (picks : List ℕ) → eachPair otherIndex l ≡ true → each stationWithin l ≡ true → Proper (requestsIn j (slotsOf words counts l picks))
+  proper [] picks e w = tt
+  proper (s ∷ l) [] e w = tt
+  proper (s ∷ l) (x ∷ picks) e w =
+      let (a, b) = and-both (each (otherIndex s) l) (eachPair otherIndex l) e in
+      let (c, d) = and-both (stationWithin s) (each stationWithin l) w in
+      add (requestIn j (slotOf s words counts x) (slotOf s words counts x .answer)) (one s (slotOf s words counts x) (slot-fair s words counts x)) (within-parts s c .0) (apart-from (s .index) l picks a) (proper l picks b d)
+    where
+      add : (y : List Request) → (y ≡ []) ⊎ ((v : ℕ) × (1 ≤ v) × (y ≡ requestAs (s .index) v ∷ [])) → s .index < 924 → Apart (s .index) (requestsIn j (slotsOf words counts l picks))
+          → Proper (requestsIn j (slotsOf words counts l picks)) → Proper (y ++ requestsIn j (slotsOf words counts l picks))
+      add y (inl q) small ap ih = rw q ih
+      add y (inr (v, lo, q)) small ap ih = rw q (small, lo, ap, ih)
+
+-- ---- THE ROW
+
+length-new : (results : List StationSlot) (n i : ℕ) → length (newRow results n i) ≡ n
+length-new results zero i = refl
+length-new results (suc n) i = ap suc (length-new results n (suc i))
+
+new-at : (results : List StationSlot) (n i k : ℕ) → k < n → getD (newRow results n i) k silent ≡ together (map carries (requestsIn (i + k) results))
+new-at results zero i k h = absurd (omega arith)
+new-at results (suc n) i zero h = ap (λ (x : ℕ). together (map carries (requestsIn x results))) (omega arith)
+new-at results (suc n) i (suc k) h = new-at results n (suc i) k (omega arith) ∙ ap (λ (x : ℕ). together (map carries (requestsIn x results))) (omega arith)
+
+account : (stations : List Station) (words counts picks : List ℕ) → eachPair otherIndex stations ≡ true → each stationWithin stations ≡ true
+    → RowAccount (slotsOf words counts stations picks) (newRow (slotsOf words counts stations picks) 8 1)
+account stations words counts picks e w =
+    record {
+      size = length-new (slotsOf words counts stations picks) 8 1;
+      made = at;
+      read = λ j lo hi.
+          ap (λ (s : Minislot). readingOf (s .word) (s .count)) (at j lo hi) ∙ together-reads (requestsIn j (slotsOf words counts stations picks)) (proper words counts j lo stations picks e w);
+    }
+  where
+    at : (j : ℕ) → 1 ≤ j → j ≤ 8 → getD (newRow (slotsOf words counts stations picks) 8 1) (j - 1) silent ≡ together (map carries (requestsIn j (slotsOf words counts stations picks)))
+    at j lo hi =
+        new-at (slotsOf words counts stations picks) 8 1 (j - 1) (omega arith)
+        ∙ ap (λ (x : ℕ). together (map carries (requestsIn x (slotsOf words counts stations picks)))) (let z : 1 + (j - 1) ≡ j = omega arith in z)
+
+some-stations : (l : List Station) → hasStations l ≡ true → 1 ≤ length l
+some-stations l e = leb-true 1 (length l) (and-both (leb 1 (length l)) (leb (length l) 64) e .0)
+
+-- what the slot that went through leaves on the wire
+module _ (ch : Channel) (picks : List ℕ) (e14 : hasStations (ch .stations) ≡ true) (e18 : soundTable (ch .stations) (ch .wire) ≡ true) where
+  says : Sound (ch .stations) (ch .wire)
+  says = sound-says (ch .stations) (ch .wire) e18
+
+  limits : withinLimits (tableCounters (ch .stations)) ≡ true
+  unfolding stationWithin
+  limits =
+      let w = says .within 0 (some-stations (ch .stations) e14) in
+      let a = and-both (withinLimits (tableCounters (ch .stations)) && leb (stationAt (ch .stations) 0 .index) 923) (conditionWithin (tableCounters (ch .stations)) (stationAt (ch .stations) 0 .condition)) w in
+      and-both (withinLimits (tableCounters (ch .stations))) (leb (stationAt (ch .stations) 0 .index) 923) (a .0) .0
+
+  pub on-the-wire : RowAccount (slotsOf (wordsOf (heardRow ch)) (countsOf (heardRow ch)) (ch .stations) picks)
+      (getD (set (ch .wire) (tableCounters (ch .stations) .next - 1) (record { minislots = newRow (slotsOf (wordsOf (heardRow ch)) (countsOf (heardRow ch)) (ch .stations) picks) 8 1 })) (tableCounters (ch .stations) .next - 1) blankRow .minislots)
+  unfolding indexesDistinct recordsWithin
+  on-the-wire =
+      let w = within-limits (tableCounters (ch .stations)) limits in
+      let (lo, hi) = w .next in
+      let n8 = w .groups .1 in
+      let t = sound-tests (ch .stations) (ch .wire) e18 in
+      subst (λ (r : Row). RowAccount (slotsOf (wordsOf (heardRow ch)) (countsOf (heardRow ch)) (ch .stations) picks) (r .minislots))
+      (sym (getD-set-same (ch .wire) (tableCounters (ch .stations) .next - 1) (record { minislots = newRow (slotsOf (wordsOf (heardRow ch)) (countsOf (heardRow ch)) (ch .stations) picks) 8 1 }) blankRow (omega (arith, says .size .0))))
+      (account (ch .stations) (wordsOf (heardRow ch)) (countsOf (heardRow ch)) picks (t .distinct) (t .within))
+
+pub row-account : RowAccountHolds
+unfolding channelSlotOf
+row-account ch picks turn n i s d e =
+    go (hasStations (ch .stations)) refl (soundTable (ch .stations) (ch .wire)) refl (eqb (length picks) (length (ch .stations)))
+    (each (λ (pick : ℕ). between 1 pick (tableCounters (ch .stations) .minislots)) picks)
+    (passes (placesAfter (tableCounters (ch .stations)) (feedbacks (readings (wordsOf (heardRow ch)) (countsOf (heardRow ch)))))) e
+  where
+    slots : List StationSlot
+    slots = slotsOf (wordsOf (heardRow ch)) (countsOf (heardRow ch)) (ch .stations) picks
+
+    result : Bool → Bool → Bool → Bool → Bool → ChannelResult
+    result a b c x y =
+        cond a
+        (cond b
+        (cond c
+        (cond x (cond y (refused ch 7) (slotThrough ch (tableCounters (ch .stations)) (feedbacks (readings (wordsOf (heardRow ch)) (countsOf (heardRow ch)))) slots)) (refused ch 11))
+        (refused ch 17))
+        (refused ch 18))
+        (refused ch 14)
+
+    go : (a : Bool) → hasStations (ch .stations) ≡ a → (b : Bool) → soundTable (ch .stations) (ch .wire) ≡ b → (c x y : Bool) → result a b c x y .answer ≡ Went turn n i s d
+        → RowAccount (slotsOf (wordsOf (heardRow ch)) (countsOf (heardRow ch)) (ch .stations) picks) (getD (result a b c x y .state .wire) (tableCounters (ch .stations) .next - 1) blankRow .minislots)
+    go true ea true eb true true true e = let z : _≡_ {A = ℕ} 0 1 = cc in absurd (omega arith)
+    go true ea true eb true true false e = on-the-wire ch picks ea eb
+    go true ea true eb true false y e = let z : _≡_ {A = ℕ} 0 1 = cc in absurd (omega arith)
+    go true ea true eb false x y e = let z : _≡_ {A = ℕ} 0 1 = cc in absurd (omega arith)
+    go true ea false eb c x y e = let z : _≡_ {A = ℕ} 0 1 = cc in absurd (omega arith)
+    go false ea b eb c x y e = let z : _≡_ {A = ℕ} 0 1 = cc in absurd (omega arith)
