@@ -1,0 +1,53 @@
+-- The private steps on the way to `firstOf`, `rowOf` and `lineOf`: what the readers of one field and of one pair of fields answer, of the parts from a place on,
+-- and what the writers of a line's two halves write.
+use mathlib.Core.Bool.{Bool, true, false, cond, _&&_}
+use mathlib.Core.List.{List, [], _∷_, _++_}
+use Prim.Native.Nat.{ℕ, _+_}
+use lib.Dec.{leb}
+use lib.ListN.{length}
+use Rattle.recording.specs.Fields.{isField, numeral}
+use Rattle.recording.specs.Decimal.{digitsOf}
+use Rattle.recording.specs.declared.fields.Field.{Field}
+use Rattle.recording.specs.declared.fields.Field.the-variants as field
+use Rattle.recording.specs.declared.fields.Pair.{Pair}
+use Rattle.recording.specs.declared.fields.Pair.the-variants as pair
+
+-- whether no part is left
+unfoldable pub none : {A : Type 0} → List A → Bool
+none [] = true
+none (x ∷ l) = false
+
+-- the first of the parts that begin at place `at`, read as a field
+unfoldable pub fieldOf : ℕ → List (List ℕ) → Field
+fieldOf at [] = field.Broken
+fieldOf at (p ∷ ps) = cond (isField p) (field.Number (numeral p) (at + length p + 1) (none ps)) field.Broken
+
+-- a part that may stand at a word's position, and one that may stand at a count's
+unfoldable pub isWord : List ℕ → Bool
+isWord p = isField p && leb (numeral p) 65535
+
+unfoldable pub isCount : List ℕ → Bool
+isCount p = isField p && leb (numeral p) 255
+
+-- the parts after the word p, which begins at place `at`: none, or a count
+unfoldable pub afterWord : ℕ → List ℕ → List (List ℕ) → Pair
+afterWord at p [] = pair.Odd (numeral p)
+afterWord at p (q ∷ ps) =
+    cond (isCount q) (pair.Both (numeral p) (numeral q) (at + length p + 1 + length q + 1) (none ps)) pair.Broken
+
+-- the first two of the parts that begin at place `at`, read as a word and a count
+unfoldable pub pairOf : ℕ → List (List ℕ) → Pair
+pairOf at [] = pair.Broken
+pairOf at (p ∷ ps) = cond (isWord p) (afterWord at p ps) pair.Broken
+
+-- a number and one byte after it
+abbrev pub fieldBytes : ℕ → ℕ → List ℕ
+fieldBytes value after = digitsOf value ++ (after ∷ [])
+
+-- `slot,group,turn,`
+unfoldable pub slotBytes : ℕ → ℕ → ℕ → List ℕ
+slotBytes slot group turn = fieldBytes slot 44 ++ fieldBytes group 44 ++ (turn ∷ []) ++ (44 ∷ [])
+
+-- `H,N,RQ` CR LF
+unfoldable pub counterBytes : ℕ → ℕ → ℕ → List ℕ
+counterBytes urgent long resolution = fieldBytes urgent 44 ++ fieldBytes long 44 ++ fieldBytes resolution 13 ++ (10 ∷ [])
