@@ -17,6 +17,7 @@ pub mod StationCalls
 pub mod Lists
 pub mod Soundness
 pub mod Calls
+pub mod Numbers
 pub mod ChannelCalls
 pub mod SoundMeaning
 pub mod Messages
