@@ -118,3 +118,12 @@ pub fn listen_at(c: Counters, words: &[u16], counts: &[u8], start: usize) -> Lis
     }
     refused(c, 18)
 }
+
+// Listens to a row with the record lent: it is left as `listen` gives it back, and the answer is its answer.
+pub fn listen_lent(c: &mut Counters, words: &[u16], counts: &[u8]) -> ListenAnswer
+    ensures { λ r. ⌜ (r ≡ listeningOf (now (c .entry)) (now (words .entry)) (now (counts .entry)) .answer) × (now (c .exit) ≡ listeningOf (now (c .entry)) (now (words .entry)) (now (counts .entry)) .counters) ⌝ }
+{
+    let heard = listen(*c, words, counts);
+    *c = heard.counters;
+    heard.answer
+}

@@ -46,3 +46,4 @@ pub mod WalkLaws
 pub mod ListeningLaws
 pub mod ChangesHold
 pub mod EdgesHold
+pub mod StationLaws

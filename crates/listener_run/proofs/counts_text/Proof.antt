@@ -1,0 +1,60 @@
+-- `listener_run::counts_text` is safe and ends: the index stays within what is written.
+-- Assumes nothing.
+use Prim.Native.Nat.{_≤_, _-_}
+use lib.ListN.{length}
+use borrow.Author.Needs.{needs}
+use Rattle.listener_run.proofs.counts_text.Statement.{statement}
+use Rattle.listener_run.proofs.counts_text.Tie as tie
+
+abbrev Inv-loop : tie.InvT-loop
+Inv-loop counts i₀ i = i ≤ length counts
+
+abbrev μ-loop : tie.MeasureT-loop
+μ-loop counts i₀ i = length counts - i
+
+slice-aggregate-text : tie.Need-slice-aggregate-text Inv-loop μ-loop
+slice-aggregate-text c = search needs
+
+text-requires : tie.Need-text-requires Inv-loop μ-loop
+text-requires c κs = search needs
+
+loop-holds : tie.Need-loop-holds Inv-loop μ-loop
+loop-holds c = search needs
+
+shared-slice-read-wide-byte : tie.Need-shared-slice-read-wide-byte Inv-loop μ-loop
+shared-slice-read-wide-byte c = search needs
+
+wide-byte-requires : tie.Need-wide-byte-requires Inv-loop μ-loop
+wide-byte-requires c κs = search needs
+
+field-requires : tie.Need-field-requires Inv-loop μ-loop
+field-requires c κs = search needs
+
+add-i : tie.Need-add-i Inv-loop μ-loop
+add-i c = search needs
+
+loop-less : tie.Need-loop-less Inv-loop μ-loop
+loop-less c = search needs
+
+loop-again : tie.Need-loop-again Inv-loop μ-loop
+loop-again c = search needs
+
+returns : tie.Need-returns Inv-loop μ-loop
+returns c = search needs
+
+pub counts-text-spec : {M : Type 1} → statement M
+counts-text-spec =
+    tie.close
+    (tie.spec
+    Inv-loop
+    μ-loop
+    slice-aggregate-text
+    text-requires
+    loop-holds
+    shared-slice-read-wide-byte
+    wide-byte-requires
+    field-requires
+    add-i
+    loop-less
+    loop-again
+    returns)
