@@ -140,7 +140,7 @@ sends-is g h n r c = go h n r c
     long-is n r (Asked x j t) = refl
     long-is n r (Resolving x i t) = refl
     long-is n r (Urgent i) = refl
-    long-is n r (Long f l t) = rw (add-one (t - l))
+    long-is n r (Long f l t) = ap (λ (x : ℕ). cond (eqb f 1) x 0) (add-one (t - l))
 
     urgent-is : (h n r : ℕ) (c : Condition) → sends UrgentTurn r g c ≡ sendsBy (suc h) n r c
     urgent-is h n r Free = refl

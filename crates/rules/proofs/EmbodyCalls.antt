@@ -25,7 +25,7 @@ use Rattle.rules.specs.Limits.{between}
 use Rattle.rules.specs.Hearing.{wordsOf, countsOf}
 use Rattle.rules.specs.Queueing.{placesAfter, passes}
 use Rattle.rules.specs.Turns.{turnOf}
-use Rattle.rules.specs.StationLimits.{Free, Fresh, stationWithin}
+use Rattle.rules.specs.StationLimits.{Condition, Free, Fresh, stationWithin}
 use Rattle.rules.specs.OwnHearing.{hearsItself}
 use Rattle.rules.specs.StationCalls.{isFree, withCondition, noStation, refusedOffer, offerOf}
 use Rattle.rules.specs.Soundness.{tableCounters, recordsWithin, soundTable}
@@ -266,58 +266,36 @@ module _ (S : Start) (G : GoodStart S) (p : Plain) (t : Table) (R : Same S p t) 
     put-back n =
         subst (λ (l : List Station). Embodied S (tableRefuse t n) (record { state = record { stations = l; wire = ch .wire }; answer = Refused n })) (sym (set-self (ch .stations) k noStation h)) (stay-put n)
 
-    -- the record with a fresh message
+    -- a record with a condition of its own, in the table with a fresh message at k
+    accept-is : (v j : ℕ) (s : Station) (c : Condition) → IsStation S t j s → c ≡ cond (eqb j k) (Fresh v) (t .condition j) → IsStation S (tableAccept t k v .state) j (withCondition s c)
+    accept-is v j s c a e =
+        record {
+          index = a .index;
+          minislots = a .minislots;
+          groups = a .groups;
+          next = a .next;
+          urgent = a .urgent;
+          long = a .long;
+          arrays = a .arrays;
+          resolution = a .resolution;
+          mark = a .mark;
+          condition = e;
+        }
+
+    -- the other stations keep theirs
+    other-is : (v j : ℕ) (s : Station) → IsStation S t j s → (j ≡ k → ⊥) → IsStation S (tableAccept t k v .state) j s
+    other-is v j s a ne = accept-is v j s (s .condition) a (a .condition ∙ rw (ne-eqb j k ne))
+
+    others-are : (v j : ℕ) (l : List Station) → AreStations S t j l → k < j → AreStations S (tableAccept t k v .state) j l
+    others-are v j [] a q = tt
+    others-are v j (s ∷ l) a q = (other-is v j s (a .0) (λ e. omega arith), others-are v (suc j) l (a .1) (omega arith))
+
     set-are : (v i j : ℕ) (l : List Station) → AreStations S t j l → i < length l → j + i ≡ k
         → AreStations S (tableAccept t k v .state) j (set l i (withCondition (getD l i noStation) (Fresh v)))
     set-are v i j [] a w e = absurd (omega arith)
-    set-are v zero j (s ∷ l) a w e = (
-      record {
-        index = a .0 .index;
-        minislots = a .0 .minislots;
-        groups = a .0 .groups;
-        next = a .0 .next;
-        urgent = a .0 .urgent;
-        long = a .0 .long;
-        arrays = a .0 .arrays;
-        resolution = a .0 .resolution;
-        mark = a .0 .mark;
-        condition = rw (let q : j ≡ k = omega arith in q, eqb-self k);
-      },
-      others v (suc j) l (a .1) (omega arith),
-    )
-      where
-        others : (v j : ℕ) (l : List Station) → AreStations S t j l → k < j → AreStations S (tableAccept t k v .state) j l
-        others v j [] a q = tt
-        others v j (s ∷ l) a q = (
-          record {
-            index = a .0 .index;
-            minislots = a .0 .minislots;
-            groups = a .0 .groups;
-            next = a .0 .next;
-            urgent = a .0 .urgent;
-            long = a .0 .long;
-            arrays = a .0 .arrays;
-            resolution = a .0 .resolution;
-            mark = a .0 .mark;
-            condition = a .0 .condition ∙ rw (ne-eqb j k (λ e. omega arith));
-          },
-          others v (suc j) l (a .1) (omega arith),
-        )
-    set-are v (suc i) j (s ∷ l) a w e = (
-      record {
-        index = a .0 .index;
-        minislots = a .0 .minislots;
-        groups = a .0 .groups;
-        next = a .0 .next;
-        urgent = a .0 .urgent;
-        long = a .0 .long;
-        arrays = a .0 .arrays;
-        resolution = a .0 .resolution;
-        mark = a .0 .mark;
-        condition = a .0 .condition ∙ rw (ne-eqb j k (λ x. omega arith));
-      },
-      set-are v i (suc j) l (a .1) (omega arith) (omega arith),
-    )
+    set-are v zero j (s ∷ l) a w e =
+        (accept-is v j s (Fresh v) (a .0) (rw (let q : j ≡ k = omega arith in q, eqb-self k)), others-are v (suc j) l (a .1) (omega arith))
+    set-are v (suc i) j (s ∷ l) a w e = (other-is v j s (a .0) (λ x. omega arith), set-are v i (suc j) l (a .1) (omega arith) (omega arith))
 
     set-names : (v i : ℕ) (l : List Station) → map (λ (s : Station). s .index) (set l i (withCondition (getD l i noStation) (Fresh v))) ≡ map (λ (s : Station). s .index) l
     set-names v i [] = refl

@@ -43,6 +43,7 @@ pub mod Theorem
 pub mod Worked
 pub mod Transmission
 pub mod WalkLaws
+pub mod StationListens
 pub mod ListeningLaws
 pub mod ChangesHold
 pub mod EdgesHold

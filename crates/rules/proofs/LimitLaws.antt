@@ -1,4 +1,4 @@
--- What the limits' tests say: of a record of counters within its limits, and of lengths that pass none.
+-- What the limits' tests say: of a record of counters within its limits, of lengths that pass none, and of a station's record.
 -- Assumes nothing.
 use mathlib.Core.Path.{_≡_, refl}
 use mathlib.Core.Bool.{Bool, true, false, _&&_, _||_, and-eq-true-iff}
@@ -9,8 +9,10 @@ use borrow.Author.Tests.{leb-true, ltb-false, eqb-true}
 use Rattle.listlaws.specs.Every.{everyFrom}
 use Rattle.rules.specs.declared.Counters.{Counters}
 use Rattle.rules.specs.declared.Places.{Places}
+use Rattle.rules.specs.declared.Station.{Station}
 use Rattle.rules.specs.Limits.{withinLimits, groupsWithin, between, resolutionWithin, openedWithin}
 use Rattle.rules.specs.Queueing.{passes}
+use Rattle.rules.specs.StationLimits.{conditionWithin, stationWithin}
 
 pub between-bounds : (low x high : ℕ) → between low x high ≡ true → (low ≤ x) × (x ≤ high)
 between-bounds low x high e =
@@ -72,3 +74,16 @@ none-passes p e =
     let q = or-false (ltb 4095 (p .urgent) || ltb 65535 (p .long)) (ltb 4095 (p .resolution)) e in
     let r = or-false (ltb 4095 (p .urgent)) (ltb 65535 (p .long)) (q .0) in
     (ltb-false 4095 (p .urgent) (r .0), ltb-false 65535 (p .long) (r .1), ltb-false 4095 (p .resolution) (q .1))
+
+-- a station's record within its limits: its counters, its index, its condition
+pub record StationIn (s : Station) : Type 0 where
+  pub counters : withinLimits (s .counters) ≡ true
+  pub index : s .index ≤ 923
+  pub condition : conditionWithin (s .counters) (s .condition) ≡ true
+
+pub station-in : (s : Station) → stationWithin s ≡ true → StationIn s
+unfolding stationWithin
+station-in s e =
+    let p = and-eq-true-iff (withinLimits (s .counters) && leb (s .index) 923) (conditionWithin (s .counters) (s .condition)) .0 e in
+    let q = and-eq-true-iff (withinLimits (s .counters)) (leb (s .index) 923) .0 (p .0) in
+    record { counters = q .0; index = leb-true (s .index) 923 (q .1); condition = p .1 }

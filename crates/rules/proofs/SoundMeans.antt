@@ -1,13 +1,13 @@
 -- The test of a sound table and what the paper says of one are the same: each clause, both ways. Assumes nothing.
 use mathlib.Core.Path.{_≡_, refl, sym, ap, subst, _∙_}
-use mathlib.Core.Bool.{Bool, true, not, _&&_}
+use mathlib.Core.Bool.{Bool, true, not}
 use mathlib.Core.List.{List, [], _∷_}
 use mathlib.Core.Logic.{_≢_, by-cases}
 use Prim.Native.Nat.{ℕ, zero, suc, _+_, _-_, _≤_, _<_}
 use native.Mathlib.Omega.{arith}
 use native.Mathlib.Decide.{decLt}
 use native.Mathlib.Nat.{zero-add}
-use lib.Dec.{eqb, leb}
+use lib.Dec.{eqb}
 use lib.ListN.{length, getD}
 use borrow.Author.Tests.{eqb-true, ne-eqb, eq-eqb}
 use Rattle.minislot.specs.declared.Minislot.{Minislot}
@@ -17,15 +17,14 @@ use Rattle.rules.specs.declared.Station.{Station}
 use Rattle.rules.specs.declared.Row.{Row}
 use Rattle.rules.specs.Lists.{each, eachPair, sumOf, gatherOf}
 use Rattle.listlaws.specs.Every.{everyFrom}
-use Rattle.rules.specs.Limits.{withinLimits}
-use Rattle.rules.specs.StationLimits.{resolutionAt, conditionWithin, stationWithin}
+use Rattle.rules.specs.StationLimits.{resolutionAt, stationWithin}
 use Rattle.rules.specs.StationCalls.{noStation}
 use Rattle.rules.specs.Soundness.{tableCounters, otherIndex, indexesDistinct, recordsWithin, sameCounters, countersShared, differ, urgentPlaces, urgentSound, Stretch, apart, longStretches, longSound, differentPlaces, namedTwice, resolvingPlaces, resolutionSoundAt, resolutionSound, askedMinislot, sameMinislot, rowSound, wireSound, soundTable}
 use Rattle.rules.specs.ChannelCalls.{blankRow}
 use Rattle.rules.specs.SoundMeaning.{atUrgent, coversLong, atResolving, stationAt, howMany, Sound}
 use Rattle.rules.proofs.Views.{eqb-self}
 use Rattle.listlaws.proofs.Table.{from-holds, from-at}
-use Rattle.rules.proofs.LimitLaws.{within-limits, arrays-lengths}
+use Rattle.rules.proofs.LimitLaws.{within-limits, arrays-lengths, station-in}
 use Rattle.rules.proofs.SlotStep.{and-both}
 use Rattle.rules.proofs.SoundTests.{SoundTests, sound-tests, tests-sound}
 use Rattle.rules.proofs.Counting.{pairs-once, once-pairs, exactly-one, one-each, spread, length-spread, apart-once, once-apart, two-or-more, twice-each}
@@ -63,20 +62,14 @@ eq-not a b h = rw (ne-eqb a b h)
 
 -- ---- the conditions within the shared counters
 
-pub within-parts : (s : Station) → stationWithin s ≡ true → (withinLimits (s .counters) ≡ true) × (conditionWithin (s .counters) (s .condition) ≡ true)
-unfolding stationWithin
-within-parts s e =
-    let (x, y) = and-both (withinLimits (s .counters) && leb (s .index) 923) (conditionWithin (s .counters) (s .condition)) e in
-    (and-both (withinLimits (s .counters)) (leb (s .index) 923) x .0, y)
-
 all-within : (c : Counters) (l : List Station) → ((k : ℕ) → k < length l → stationWithin (stationAt l k) ≡ true) → ((k : ℕ) → k < length l → stationAt l k .counters ≡ c) → AllWithin c l
 all-within c [] w e = tt
 all-within c (s ∷ l) w e =
-    (rw (← (e zero (omega arith))) (within-parts s (w zero (omega arith)) .1), all-within c l (λ k h. w (suc k) (omega arith)) (λ k h. e (suc k) (omega arith)))
+    (rw (← (e zero (omega arith))) (station-in s (w zero (omega arith)) .condition), all-within c l (λ k h. w (suc k) (omega arith)) (λ k h. e (suc k) (omega arith)))
 
 pub first-length : (l : List Station) → ((k : ℕ) → k < length l → stationWithin (stationAt l k) ≡ true) → length (tableCounters l .resolution) ≡ 8
 first-length [] w = refl
-first-length (s ∷ l) w = arrays-lengths (s .counters) (within-limits (s .counters) (within-parts s (w zero (omega arith)) .0) .arrays) .0
+first-length (s ∷ l) w = arrays-lengths (s .counters) (within-limits (s .counters) (station-in s (w zero (omega arith)) .counters) .arrays) .0
 
 same-slot : (a b : Minislot) → sameMinislot a b ≡ true → a ≡ b
 same-slot a b e =

@@ -42,7 +42,7 @@ use Rattle.rules.specs.Calls.{Went}
 use Rattle.rules.specs.SoundMeaning.{stationAt, Sound}
 use Rattle.rules.specs.RowAccount.{RowAccount, RowAccountHolds}
 use Rattle.rules.proofs.SlotStep.{and-both}
-use Rattle.rules.proofs.LimitLaws.{within-limits}
+use Rattle.rules.proofs.LimitLaws.{within-limits, station-in}
 use Rattle.rules.proofs.SoundTests.{sound-tests}
 use Rattle.rules.proofs.SoundMeans.{not-eq, sound-says}
 
@@ -120,13 +120,6 @@ fair-if s false x y p q = q
 fair-refused : (s : Station) (n : ℕ) → Fair s (refusedSlot s n)
 fair-refused s n = record { index = refl; sends = tt }
 
-within-parts : (s : Station) → stationWithin s ≡ true → (s .index < 924) × (conditionWithin (s .counters) (s .condition) ≡ true)
-unfolding stationWithin
-within-parts s w =
-    let (a, b) = and-both (withinLimits (s .counters) && leb (s .index) 923) (conditionWithin (s .counters) (s .condition)) w in
-    let c : s .index ≤ 923 = leb-true (s .index) 923 (and-both (withinLimits (s .counters)) (leb (s .index) 923) a .1) in
-    (omega arith, b)
-
 pub slot-fair : (s : Station) (words counts : List ℕ) (pick : ℕ) → Fair s (slotOf s words counts pick)
 unfolding slotOf heardSlotOf stationAfter
 slot-fair s words counts pick =
@@ -150,7 +143,7 @@ slot-fair s words counts pick =
         go : (b : Bool) → requesting s row ≡ b → 1 ≤ requestMinislot b pick → 1 ≤ totalOf (conditionAfter s row pick)
         go true e lo =
             rw (total-kept (turnOf (placesAfter (s .counters) row)) (placesAfter (s .counters) row .resolution) (s .counters .next) pick (settledOf (s .counters) row (s .condition)) e)
-            (settled-total (s .counters) (placesAfter (s .counters) row .resolution) (s .counters .next) (immediateOf (s .counters) row) (placesOf (s .counters)) row (s .condition) (within-parts s w .1) e)
+            (settled-total (s .counters) (placesAfter (s .counters) row .resolution) (s .counters .next) (immediateOf (s .counters) row) (placesOf (s .counters)) row (s .condition) (station-in s w .condition) e)
         go false e lo = absurd (omega arith)
 
     heard : (row : List Feedback) → stationWithin s ≡ true → Fair s (heardSlotOf s words row pick)
@@ -202,7 +195,7 @@ module _ (words counts : List ℕ) (j : ℕ) (lo : 1 ≤ j) where
   proper (s ∷ l) (x ∷ picks) e w =
       let (a, b) = and-both (each (otherIndex s) l) (eachPair otherIndex l) e in
       let (c, d) = and-both (stationWithin s) (each stationWithin l) w in
-      add (requestIn j (slotOf s words counts x) (slotOf s words counts x .answer)) (one s (slotOf s words counts x) (slot-fair s words counts x)) (within-parts s c .0) (apart-from (s .index) l picks a) (proper l picks b d)
+      add (requestIn j (slotOf s words counts x) (slotOf s words counts x .answer)) (one s (slotOf s words counts x) (slot-fair s words counts x)) (let z = station-in s c .index in omega arith) (apart-from (s .index) l picks a) (proper l picks b d)
     where
       add : (y : List Request) → (y ≡ []) ⊎ ((v : ℕ) × (1 ≤ v) × (y ≡ requestAs (s .index) v ∷ [])) → s .index < 924 → Apart (s .index) (requestsIn j (slotsOf words counts l picks))
           → Proper (requestsIn j (slotsOf words counts l picks)) → Proper (y ++ requestsIn j (slotsOf words counts l picks))
@@ -244,11 +237,7 @@ module _ (ch : Channel) (picks : List ℕ) (e14 : hasStations (ch .stations) ≡
   says = sound-says (ch .stations) (ch .wire) e18
 
   limits : withinLimits (tableCounters (ch .stations)) ≡ true
-  unfolding stationWithin
-  limits =
-      let w = says .within 0 (some-stations (ch .stations) e14) in
-      let a = and-both (withinLimits (tableCounters (ch .stations)) && leb (stationAt (ch .stations) 0 .index) 923) (conditionWithin (tableCounters (ch .stations)) (stationAt (ch .stations) 0 .condition)) w in
-      and-both (withinLimits (tableCounters (ch .stations))) (leb (stationAt (ch .stations) 0 .index) 923) (a .0) .0
+  limits = station-in (stationAt (ch .stations) 0) (says .within 0 (some-stations (ch .stations) e14)) .counters
 
   pub on-the-wire : RowAccount (slotsOf (wordsOf (heardRow ch)) (countsOf (heardRow ch)) (ch .stations) picks)
       (getD (set (ch .wire) (tableCounters (ch .stations) .next - 1) (record { minislots = newRow (slotsOf (wordsOf (heardRow ch)) (countsOf (heardRow ch)) (ch .stations) picks) 8 1 })) (tableCounters (ch .stations) .next - 1) blankRow .minislots)

@@ -1,7 +1,7 @@
 -- What the walk of a channel's slot needs: the stations' slots one by one; the new row written request by request; the data senders counted, with the last
 -- one's index and segment; and what the stations asked in a minislot left there, station by station. Assumes nothing.
 use mathlib.Core.Path.{_≡_, refl, ap, _∙_}
-use mathlib.Core.Bool.{Bool, true, false, cond, _&&_}
+use mathlib.Core.Bool.{Bool, true, false, cond}
 use mathlib.Core.List.{List, [], _∷_, _++_, map, append-nil}
 use Prim.Native.Nat.{ℕ, zero, suc, _+_, _-_, _≤_, _<_}
 use native.Mathlib.Omega.{arith}
@@ -19,17 +19,17 @@ use Rattle.rules.specs.declared.SlotAnswer.{SlotAnswer}
 use Rattle.rules.specs.declared.SlotAnswer.the-variants.{Went as WentSlot, Refused as RefusedSlot}
 use Rattle.rules.specs.Lists.{onlyIf}
 use Rattle.rules.specs.Requesting.{totalOf}
-use Rattle.rules.specs.Limits.{between, withinLimits}
+use Rattle.rules.specs.Limits.{between}
 use Rattle.rules.specs.Queueing.{placesAfter, passes}
 use Rattle.rules.specs.Turns.{turnOf}
 use Rattle.rules.specs.Listening.{hasRow}
-use Rattle.rules.specs.StationLimits.{conditionWithin, stationWithin}
+use Rattle.rules.specs.StationLimits.{stationWithin}
 use Rattle.rules.specs.OwnHearing.{hearsItself}
 use Rattle.rules.specs.StationCalls.{requestMinislot, requesting, segmentSent, stationAfter, heardSlotOf, refusedSlot, slotOf, noStation}
 use Rattle.rules.specs.Soundness.{askedRequest, askedRequests, askedMinislot}
 use Rattle.rules.specs.ChannelCalls.{slotsOf, requestIn, requestsIn, newRow, DataSent, dataIn, dataSent, loneIndex, loneSegment}
 use Rattle.rules.proofs.SlotStep.{and-both}
-use Rattle.rules.proofs.LimitLaws.{within-limits}
+use Rattle.rules.proofs.LimitLaws.{within-limits, station-in}
 use Rattle.rules.proofs.TestLaws.{map-append, gather-last, gather-more}
 
 -- ---- the stations' slots, one by one
@@ -158,13 +158,6 @@ asked-more l k g j h =
 
 -- ---- a station's request stands in one of the eight minislots
 
-minislots-within : (s : Station) → stationWithin s ≡ true → s .counters .minislots ≤ 8
-unfolding stationWithin
-minislots-within s w =
-    let a = and-both (withinLimits (s .counters) && leb (s .index) 923) (conditionWithin (s .counters) (s .condition)) w in
-    let b = and-both (withinLimits (s .counters)) (leb (s .index) 923) (a .0) in
-    within-limits (s .counters) (b .0) .minislots .1
-
 in-row-if : (b : Bool) (x y : StationSlot) → (b ≡ true → InRow (x .answer)) → InRow (y .answer) → InRow (cond b x y .answer)
 in-row-if true x y p q = p refl
 in-row-if false x y p q = q
@@ -181,7 +174,7 @@ slot-in-row s words counts pick =
     tt
   where
     small : stationWithin s ≡ true → between 1 pick (s .counters .minislots) ≡ true → pick ≤ 8
-    small w b = omega (arith, minislots-within s w, leb-true pick (s .counters .minislots) (and-both (leb 1 pick) (leb pick (s .counters .minislots)) b .1))
+    small w b = omega (arith, within-limits (s .counters) (station-in s w .counters) .minislots .1, leb-true pick (s .counters .minislots) (and-both (leb 1 pick) (leb pick (s .counters .minislots)) b .1))
 
     least : (b : Bool) → pick ≤ 8 → requestMinislot b pick ≤ 8
     least true h = h
