@@ -3,7 +3,7 @@
 -- a slot by the row's answer.
 -- Assumes nothing.
 use mathlib.Core.Path.{_≡_, refl, ap, _∙_, sym}
-use mathlib.Core.Bool.{Bool, true, false, cond, not, _&&_, and-eq-true-iff, and-false}
+use mathlib.Core.Bool.{Bool, true, false, cond, _&&_, and-eq-true-iff, and-false}
 use mathlib.Core.List.{List, [], _∷_}
 use Prim.Native.Nat.{ℕ, zero, suc, _+_, _-_, _≤_, _<_}
 use native.Mathlib.Nat.{add-zero, add-suc, suc-add, le-of-suc-le-suc, not-suc-le-zero}
@@ -11,8 +11,7 @@ use native.Mathlib.Omega.{arith}
 use lib.Count.{ones}
 use lib.Dec.{leb, ltb, eqb}
 use lib.ListN.{length, getD, take, drop, length-take, length-drop}
-use lib.Seq.{take-take, getD-take}
-use borrow.Author.Tests.{leb-true, le-leb, lt-leb, eq-eqb, ne-eqb, eqb-true, eqb-false}
+use borrow.Author.Tests.{leb-true, le-leb, eq-eqb, ne-eqb, eqb-false}
 use Rattle.minislot.specs.declared.Feedback.{Feedback}
 use Rattle.minislot.specs.declared.Feedback.the-variants.{Empty, Single, Collide}
 use Rattle.minislot.specs.declared.Reading.{Reading}
@@ -28,12 +27,12 @@ use Rattle.rules.specs.declared.Station.{Station}
 use Rattle.rules.specs.declared.StationSlot.{StationSlot}
 use Rattle.rules.specs.declared.SlotAnswer.the-variants.{Went}
 use Rattle.rules.specs.Limits.{between, withinLimits}
-use Rattle.rules.specs.Queueing.{queued, queuedSingle, queuedRow, passes, placesOf, openedOf, immediate, immediateOf, placesAfter}
+use Rattle.rules.specs.Queueing.{queued, queuedSingle, queuedRow, passes, openedOf, immediate, immediateOf, placesAfter}
 use Rattle.rules.specs.Turns.{turnOf}
 use Rattle.rules.specs.Falling.{fallen}
 use Rattle.rules.specs.Listening.{hasRow}
 use Rattle.rules.specs.StationLimits.{Condition, Free, Fresh, Asked, Resolving, Urgent, Long, conditionWithin, stationWithin, isTotal}
-use Rattle.rules.specs.Settling.{standsAlone, standsAfter, placesBefore, feedbackAt, settledBy, settledOf}
+use Rattle.rules.specs.Settling.{standsAlone, standsAfter, placesBefore, feedbackAt, settledBy, settledOf, settledHere}
 use Rattle.rules.specs.OwnHearing.{ownMinislot, hearsAt, hearsFrom, hearsItself}
 use Rattle.rules.specs.Requesting.{requests, requested}
 use Rattle.rules.specs.Serving.{sends, moved}
@@ -123,15 +122,6 @@ settled-left c b g p row (Long f l t) e =
     between-bounds 1 l t (both x y (r₁ .0) .1)
 
 -- ---- step 1 for one condition
-
--- by the lengths p before its own minislot and that minislot's feedback f
-unfoldable pub settledHere : Bool → ℕ → Places → Feedback → Condition → Condition
-settledHere b g p f Free = Free
-settledHere b g p f (Fresh t) = Fresh t
-settledHere b g p f (Asked h j t) = cond (eqb h g) (standsAfter b g p f t) (Asked h j t)
-settledHere b g p f (Resolving h i t) = Resolving h i t
-settledHere b g p f (Urgent i) = Urgent i
-settledHere b g p f (Long f′ l t) = Long f′ l t
 
 -- step 1 for a condition is that, at its own minislot of the row
 pub settled-here : (b : Bool) (g : ℕ) (p : Places) (row : List Feedback) (k : Condition)

@@ -40,6 +40,15 @@ settledBy b g p row (Resolving h i t) = Resolving h i t
 settledBy b g p row (Urgent i) = Urgent i
 settledBy b g p row (Long f l t) = Long f l t
 
+-- by the lengths p before its own minislot and that minislot's feedback f
+unfoldable pub settledHere : Bool → ℕ → Places → Feedback → Condition → Condition
+settledHere b g p f Free = Free
+settledHere b g p f (Fresh t) = Fresh t
+settledHere b g p f (Asked h j t) = cond (eqb h g) (standsAfter b g p f t) (Asked h j t)
+settledHere b g p f (Resolving h i t) = Resolving h i t
+settledHere b g p f (Urgent i) = Urgent i
+settledHere b g p f (Long f′ l t) = Long f′ l t
+
 -- the same from the counters and the row
 abbrev pub settledOf : Counters → List Feedback → Condition → Condition
 settledOf c row k = settledBy (immediateOf c row) (c .next) (placesOf c) row k

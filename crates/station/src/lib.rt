@@ -1,9 +1,15 @@
-// The station (paper: box): its start, an offer of a message, and its slot, by value. Steps and tests are in the modules, for whoever keeps
-// many stations.
-pub mod hearing;
-pub mod limits;
-pub mod steps;
+// The station (paper: box): its start, an offer of a message, and its slot, by value.
 
+use conditions::hearing::hears_itself;
+use conditions::hearing::own_minislot;
+use conditions::limits::in_ranges;
+use conditions::limits::within;
+use conditions::steps::is_free;
+use conditions::steps::moves;
+use conditions::steps::request;
+use conditions::steps::requests;
+use conditions::steps::sends;
+use conditions::steps::settle;
 use counters::fall;
 use counters::immediate_success;
 use counters::opened_of;
@@ -11,10 +17,6 @@ use counters::passes_limit;
 use counters::places_of;
 use counters::queue_row;
 use counters::turn;
-use hearing::hears_itself;
-use hearing::own_minislot;
-use limits::in_ranges;
-use limits::within;
 use message::SlotTotal;
 use message::slots;
 use minislot::MinislotFeedback;
@@ -30,12 +32,6 @@ use rules::Station;
 use rules::StationOffered;
 use rules::StationSlot;
 use rules::StationStarted;
-use steps::is_free;
-use steps::moves;
-use steps::request;
-use steps::requests;
-use steps::sends;
-use steps::settle;
 ghost use mathlib.Core.Path.{_≡_};
 ghost use mathlib.Core.Bool.{true, false};
 ghost use Prim.Native.Nat.{ℕ, _-_, _≤_};

@@ -1,10 +1,10 @@
 -- `settle_row` settles a station at its own minislot of the row. Assumes nothing.
-use mathlib.Core.Path.{_≡_, _∙_, sym}
+use mathlib.Core.Path.{_≡_, _∙_}
 use native.Mathlib.Omega.{arith}
 use lib.ListN.{length}
 use Rattle.rules.proofs.LimitLaws.{within-limits}
 use Rattle.rules.proofs.StationLaws.{station-within}
-use Rattle.station.proofs.Rows.{own-inside, feedback-at, passes-at, settles-at}
+use Rattle.conditions.proofs.Rows.{own-inside, feedback-at, passes-at, settles-at}
 use borrow.Author.Needs.{needs}
 use Rattle.station.proofs.settle_row.Statement.{statement}
 use Rattle.station.proofs.settle_row.Tie as tie

@@ -1,0 +1,97 @@
+-- `hears_itself` tests one minislot after the other: each before j passed, and one that fails fails the row. Assumes nothing.
+use mathlib.Core.Path.{_≡_, sym, _∙_}
+use mathlib.Core.Bool.{true}
+use Prim.Native.Nat.{ℕ, _+_, _-_, _≤_, _<_}
+use native.Mathlib.Omega.{arith}
+use lib.ListN.{length, getD}
+use borrow.Author.Needs.{needs}
+use borrow.Author.Count.{below-more}
+use Rattle.rules.specs.OwnHearing.{hearsAt}
+use Rattle.conditions.proofs.Rows.{blank, misses, hears}
+use Rattle.conditions.proofs.hearing.hears_itself.Statement.{statement}
+use Rattle.conditions.proofs.hearing.hears_itself.Tie as tie
+
+abbrev Inv-loop : tie.InvT-loop
+Inv-loop s words row m own total mine j₀ j = (j ≤ m) × ((i : ℕ) → i < j → hearsAt (s .index) own total (i + 1) (getD words i 0) (getD row i blank .feedback) ≡ true)
+
+abbrev μ-loop : tie.MeasureT-loop
+μ-loop s words row m own total mine j₀ j = m - j
+
+own-minislot-requires : tie.Need-own-minislot-requires Inv-loop μ-loop
+own-minislot-requires c κs = search needs
+
+own-total-requires : tie.Need-own-total-requires Inv-loop μ-loop
+own-total-requires c κs = search needs
+
+word-of-requires : tie.Need-word-of-requires Inv-loop μ-loop
+word-of-requires c κs = search needs
+
+loop-holds : tie.Need-loop-holds Inv-loop μ-loop
+loop-holds c = (omega arith, λ k h. absurd (omega arith))
+
+cast-i : tie.Need-cast-i Inv-loop μ-loop
+cast-i c = search needs
+
+mul-slot : tie.Need-mul-slot Inv-loop μ-loop
+mul-slot c = search needs
+
+array-copy-out-slot : tie.Need-array-copy-out-slot Inv-loop μ-loop
+array-copy-out-slot c = search needs
+
+add-hears-at : tie.Need-add-hears-at Inv-loop μ-loop
+add-hears-at c = search needs
+
+mul-hears-at : tie.Need-mul-hears-at Inv-loop μ-loop
+mul-hears-at c = search needs
+
+shared-slice-read-hears-at : tie.Need-shared-slice-read-hears-at Inv-loop μ-loop
+shared-slice-read-hears-at c = search needs
+
+hears-at-requires : tie.Need-hears-at-requires Inv-loop μ-loop
+hears-at-requires c κs = c .before .before .before .before .word-of .ensures
+
+add-j : tie.Need-add-j Inv-loop μ-loop
+add-j c = search needs
+
+loop-less : tie.Need-loop-less Inv-loop μ-loop
+loop-less c = search needs
+
+loop-again : tie.Need-loop-again Inv-loop μ-loop
+loop-again c = (omega arith, below-more _ _ (c .before .before .before .before .before .loop .inv .1) (sym (c .before .hears-at .ensures) ∙ c .if1 .taken))
+
+returns : tie.Need-returns Inv-loop μ-loop
+returns c =
+    let a = c .before .before .before .before .before .before .before .before .before .before .args in
+    let full : length (a .t3) ≡ 8 = search needs in
+    let p = c .before .before .before .before .before .before .before .before .before .before .pre in
+    misses (a .s) (a .words .now) (a .t3) (c .before .before .before .before .before .before .before .before .own-minislot .result) (c .before .before .before .before .before .before .before .own-total .result) (omega arith) (p .1) (c .before .before .before .before .before .before .before .before .own-minislot .ensures) (c .before .before .before .before .before .before .before .own-total .ensures) (c .before .before .before .before .before .loop .j) (omega arith) (sym (c .before .hears-at .ensures) ∙ c .if1 .left)
+
+returns-2 : tie.Need-returns-2 Inv-loop μ-loop
+returns-2 c =
+    let a = c .before .before .before .before .before .before .args in
+    let full : length (a .t3) ≡ 8 = search needs in
+    let p = c .before .before .before .before .before .before .pre in
+    hears (a .s) (a .words .now) (a .t3) (c .before .before .before .before .own-minislot .result) (c .before .before .before .own-total .result) (omega arith) (p .1) (c .before .before .before .before .own-minislot .ensures) (c .before .before .before .own-total .ensures) (λ i h. c .before .loop .inv .1 i (omega arith))
+
+pub hears-itself-spec : {M : Type 1} → statement M
+hears-itself-spec =
+    tie.close
+    (tie.spec
+    Inv-loop
+    μ-loop
+    own-minislot-requires
+    own-total-requires
+    word-of-requires
+    loop-holds
+    cast-i
+    mul-slot
+    array-copy-out-slot
+    add-hears-at
+    mul-hears-at
+    shared-slice-read-hears-at
+    hears-at-requires
+    add-j
+    loop-less
+    loop-again
+    returns
+    returns-2)

@@ -1,0 +1,45 @@
+-- `resolving_within` tests the group, the place in its resolution queue and the total of a resolving station. Assumes nothing.
+use native.Mathlib.Omega.{arith}
+use mathlib.Core.Bool.{and-true}
+use borrow.Author.Tests.{le-leb, lt-leb}
+use Rattle.rules.specs.StationLimits.{resolutionAt}
+use borrow.Author.Needs.{needs}
+use Rattle.conditions.proofs.limits.resolving_within.Statement.{statement}
+use Rattle.conditions.proofs.limits.resolving_within.Tie as tie
+
+returns : tie.Need-returns
+returns c = let a = c .before .args in rw (lt-leb 1 (a .group) (omega arith))
+
+returns-2 : tie.Need-returns-2
+returns-2 c = let a = c .before .before .args in rw (le-leb 1 (a .group) (omega arith), lt-leb (a .group) (a .t1 .groups) (omega arith))
+
+cast-g : tie.Need-cast-g
+cast-g c = search needs
+
+mul-places : tie.Need-mul-places
+mul-places c = search needs
+
+element-copy-out-places : tie.Need-element-copy-out-places
+element-copy-out-places c = search needs
+
+returns-3 : tie.Need-returns-3
+returns-3 c = let a = c .before .before .before .before .args in rw (le-leb 1 (a .group) (omega arith), le-leb (a .group) (a .t1 .groups) (omega arith), lt-leb 1 (a .place) (omega arith))
+
+returns-4 : tie.Need-returns-4
+returns-4 c = let a = c .before .before .before .before .before .args in rw (le-leb 1 (a .group) (omega arith), le-leb (a .group) (a .t1 .groups) (omega arith), le-leb 1 (a .place) (omega arith), lt-leb (a .place) (resolutionAt (a .t1) (a .group)) (omega arith))
+
+returns-5 : tie.Need-returns-5
+returns-5 c = let a = c .before .before .before .before .before .args in rw (le-leb 1 (a .group) (omega arith), le-leb (a .group) (a .t1 .groups) (omega arith), le-leb 1 (a .place) (omega arith), le-leb (a .place) (resolutionAt (a .t1) (a .group)) (omega arith), le-leb (a .total) 255 (omega arith), and-true)
+
+pub resolving-within-spec : {M : Type 1} → statement M
+resolving-within-spec =
+    tie.close
+    (tie.spec
+    returns
+    returns-2
+    cast-g
+    mul-places
+    element-copy-out-places
+    returns-3
+    returns-4
+    returns-5)

@@ -1,0 +1,30 @@
+-- `stand_alone` goes by the count, then by success. A new place is inside its queue's limit, so it fits. Assumes nothing.
+use native.Mathlib.Omega.{arith}
+use borrow.Author.Tests.{eq-eqb, ne-eqb}
+use Rattle.rules.proofs.StationLaws.{alone-urgent, alone-long}
+use Rattle.conditions.proofs.steps.stand_alone.Statement.{statement}
+use Rattle.conditions.proofs.steps.stand_alone.Tie as tie
+
+returns : tie.Need-returns
+returns c = rw (c .if2 .taken, eq-eqb _ _ (c .before .if1 .taken))
+
+add-t7 : tie.Need-add-t7
+add-t7 c = omega (arith, alone-urgent _ _ _ (c .before .before .before .pre .0) (c .before .if2 .left) (c .before .before .if1 .taken))
+
+cast-t8 : tie.Need-cast-t8
+cast-t8 c = omega (arith, alone-urgent _ _ _ (c .before .before .before .pre .0) (c .before .if2 .left) (c .before .before .if1 .taken))
+
+returns-2 : tie.Need-returns-2
+returns-2 c = rw (c .before .if2 .left, eq-eqb _ _ (c .before .before .if1 .taken))
+
+add-t9 : tie.Need-add-t9
+add-t9 c = omega (arith, alone-long _ _ _ (c .before .before .pre .0) (c .before .before .pre .1) (c .before .if1 .left))
+
+cast-t10 : tie.Need-cast-t10
+cast-t10 c = omega (arith, alone-long _ _ _ (c .before .before .pre .0) (c .before .before .pre .1) (c .before .if1 .left))
+
+returns-3 : tie.Need-returns-3
+returns-3 c = rw (ne-eqb _ _ (c .before .if1 .left))
+
+pub stand-alone-spec : {M : Type 1} → statement M
+stand-alone-spec = tie.close (tie.spec returns add-t7 cast-t8 returns-2 add-t9 cast-t10 returns-3)

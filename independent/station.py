@@ -1,0 +1,394 @@
+#!/usr/bin/env python3
+"""What crates/station_run must write, made from the paper's sentences and not from the Rattle programs.
+
+The box, its limits, its slot and its numbers are written here once more: queues are counted by walking the minislots, a
+box's place is what its queue has grown to when its own minislot has been passed.
+"""
+import sys
+
+WORDS = [w for w in range(4096) if format(w, "b").count("1") == 6]
+PLACES = {w: i for i, w in enumerate(WORDS)}
+LIMIT = {"H": 4095, "N": 65535, "RQ": 4095}
+
+
+class Refusal(Exception):
+    """The number of a refusal."""
+
+
+# ---- the record
+
+def blank(m, n, index):
+    return {"m": m, "n": n, "next": 1, "H": 0, "N": 0, "RQ": [0] * 8, "Open": [True] * 8, "index": index, "is": ("free",)}
+
+
+def nothing():
+    box = blank(0, 0, 0)
+    box.update(next=0, Open=[False] * 8)
+    return box
+
+
+def in_range(low, x, high):
+    return low <= x <= high
+
+
+def condition_fits(box):
+    kind, *v = box["is"]
+    if kind == "free":
+        return True
+    if kind == "fresh":
+        return in_range(1, v[0], 255)
+    if kind == "asked":
+        return in_range(1, v[0], box["n"]) and in_range(1, v[1], box["m"]) and in_range(1, v[2], 255)
+    if kind == "resolving":
+        return in_range(1, v[0], box["n"]) and in_range(1, v[1], box["RQ"][v[0] - 1]) and in_range(1, v[2], 255)
+    if kind == "urgent":
+        return in_range(1, v[0], box["H"])
+    first, left, total = v
+    return in_range(2, total, 255) and in_range(1, left, total) and first >= 1 and first + left - 1 <= box["N"]
+
+
+def fits(box):
+    """The record is within its limits."""
+    if not (in_range(2, box["m"], 8) and in_range(1, box["n"], 8) and in_range(1, box["next"], box["n"])):
+        return False
+    if box["index"] > 923 or box["H"] > LIMIT["H"] or box["N"] > LIMIT["N"]:
+        return False
+    inside, above = box["RQ"][: box["n"]], box["RQ"][box["n"]:]
+    if any(r > LIMIT["RQ"] for r in inside) or any(above) or not all(box["Open"][box["n"]:]):
+        return False
+    return condition_fits(box)
+
+
+# ---- reading
+
+def read(word, count):
+    number = format(word, "b").count("1")
+    if word > 4095:
+        raise Refusal(1)
+    if 0 < number < 6:
+        raise Refusal(2)
+    if number == 6:
+        if count == 0:
+            raise Refusal(3)
+        return ("single", PLACES[word], count)
+    if number == 0:
+        if count > 0:
+            raise Refusal(4)
+        return ("empty",)
+    return ("collide",)
+
+
+# ---- the three operations
+
+def start(m, n, index):
+    if not (in_range(2, m, 8) and in_range(1, n, 8)):
+        raise Refusal(5)
+    if index > 923:
+        raise Refusal(8)
+    return blank(m, n, index)
+
+
+def offer(box, size):
+    if not fits(box):
+        raise Refusal(18)
+    if box["is"] != ("free",):
+        raise Refusal(9)
+    if not in_range(1, size, 12240):
+        raise Refusal(10)
+    slots = -(-size // 48)
+    return slots, dict(box, **{"is": ("fresh", slots)})
+
+
+def must_hear(box, row, heard):
+    """What a box must hear of itself: 12 if it is missing or foreign."""
+    own = WORDS[box["index"]]
+    kind, *v = box["is"]
+    mine = v[1] if kind == "asked" and v[0] == box["next"] else None
+    for j, ((word, _), what) in enumerate(zip(row, heard), start=1):
+        if j == mine:
+            alone = what == ("single", box["index"], v[2])
+            among = what == ("collide",) and (word | own) == word
+            if not (alone or among):
+                raise Refusal(12)
+        elif what[0] == "single" and what[1] == box["index"]:
+            raise Refusal(12)
+
+
+def slot(box, row, pick):
+    """The answer and the record after."""
+    if not fits(box):
+        raise Refusal(18)
+    if len(row) != box["m"]:
+        raise Refusal(6)
+    if not in_range(1, pick, box["m"]):
+        raise Refusal(11)
+    heard = [read(word, count) for word, count in row]
+    g = box["next"]
+    H, N, RQ = box["H"], box["N"], box["RQ"][g - 1]
+    weight = sum({"empty": 0, "single": 1, "collide": 2}[what[0]] for what in heard)
+    success = box["Open"][g - 1] and weight == 1
+    after = box["is"]
+    mine = after[2] if after[0] == "asked" and after[1] == g else None
+    total = after[3] if mine else None
+    for j, what in enumerate(heard, start=1):  # step 1
+        if what[0] == "single" and what[2] == 1:
+            if not success:
+                H += 1
+            stands = ("free",) if success else ("urgent", H)
+        elif what[0] == "single":
+            N += what[2]
+            stands = ("long", N - what[2] + 1, total, total)
+        elif what[0] == "collide":
+            RQ += 1
+            stands = ("resolving", g, RQ, total)
+        if j == mine and what[0] != "empty":
+            after = stands
+    if H > LIMIT["H"] or N > LIMIT["N"] or RQ > LIMIT["RQ"]:
+        raise Refusal(7)
+    must_hear(box, row, heard)
+    turn = "urgent" if H else "long" if N else "resolve" if RQ else "open"  # step 2
+    if RQ:  # step 3
+        asks = after[0] == "resolving" and after[1] == g and after[2] == 1
+    else:
+        asks = after[0] == "fresh"
+    total = after[-1]
+    segment = 0  # step 4
+    if turn == "urgent" and after == ("urgent", 1):
+        segment = 1
+    if turn == "long" and after[0] == "long" and after[1] == 1:
+        segment = after[3] - after[2] + 1
+    if turn == "open" and asks and total == 1:
+        segment = 1
+    if asks:
+        after = ("asked", g, pick, total)
+    elif after[0] == "resolving" and after[1] == g:  # step 5
+        after = ("resolving", g, after[2] - 1, after[3])
+    elif after[0] == "urgent" and turn == "urgent":
+        after = ("urgent", after[1] - 1) if after[1] > 1 else ("free",)
+    elif after[0] == "long" and turn == "long":
+        if after[1] > 1:
+            after = ("long", after[1] - 1, after[2], after[3])
+        else:
+            after = ("long", 1, after[2] - 1, after[3]) if after[2] > 1 else ("free",)
+    new = dict(box, H=H - (turn == "urgent"), N=N - (turn == "long"), next=g % box["n"] + 1, RQ=list(box["RQ"]), Open=list(box["Open"]))
+    new["RQ"][g - 1] = max(RQ - 1, 0)
+    new["Open"][g - 1] = turn == "open"
+    new["is"] = after
+    return (turn, pick if asks else 0, segment), new
+
+
+# ---- what is written
+
+def put(*parts):
+    print(",".join(str(p) for p in parts))
+
+
+def put_record(box):
+    marks = ["yes" if o else "no" for o in box["Open"]]
+    put("record", box["m"], box["n"], box["next"], box["H"], box["N"], *box["RQ"], *marks, box["index"], *box["is"])
+
+
+def begin(m, n, index):
+    put("start", m, n, index)
+    try:
+        box = start(m, n, index)
+        put("ready")
+    except Refusal as r:
+        box = nothing()
+        put("refused", r)
+    put_record(box)
+    return box
+
+
+def given(m, n, nxt, H, N, RQ1, RQ2, open1, index, condition):
+    box = blank(m, n, index)
+    box.update(next=nxt, H=H, N=N, RQ=[RQ1, RQ2] + [0] * 6, Open=[open1] + [True] * 7)
+    box["is"] = condition
+    put("given")
+    put_record(box)
+    return box
+
+
+def offered(box, size):
+    put("offer", size)
+    try:
+        slots, box = offer(box, size)
+        put("taken", slots)
+    except Refusal as r:
+        put("refused", r)
+    put_record(box)
+    return box
+
+
+def gone(box, row, pick):
+    try:
+        answer, box = slot(box, row, pick)
+        put("went", *answer)
+    except Refusal as r:
+        put("refused", r)
+    put_record(box)
+    return box
+
+
+def slotted(box, row, pick):
+    put("slot", *[x for minislot in row for x in minislot], pick)
+    return gone(box, row, pick)
+
+
+RECORDING = [(0, 0), (0, 0), (63, 1), (95, 3), (127, 1), (0, 0), (63, 0)]
+
+
+def slot_at(box, place, pick):
+    put("slot_at", place, pick)
+    return gone(box, RECORDING[place:place + box["m"]], pick)
+
+
+EMPTY = (0, 0)
+
+def starts():
+    begin(2, 1, 0)
+    begin(8, 8, 923)
+    begin(1, 1, 0)
+    begin(9, 1, 0)
+    begin(2, 0, 0)
+    begin(2, 9, 0)
+    begin(2, 1, 924)
+    begin(1, 1, 924)
+
+
+def offers():
+    for size in (1, 48, 49, 12240, 0, 12241):
+        offered(begin(3, 2, 7), size)
+    box = offered(begin(2, 1, 5), 49)
+    offered(box, 10)
+    offered(box, 0)
+
+
+def outside_limits():
+    """18 by each limit, tried by an offer to a box that is also not free, and by a slot without a row."""
+    for values in (
+        (2, 1, 0, 0, 0, 0, 0, True, 0, ("fresh", 1)),
+        (2, 1, 2, 0, 0, 0, 0, True, 0, ("fresh", 1)),
+        (2, 1, 1, 4096, 0, 0, 0, True, 0, ("fresh", 1)),
+        (2, 1, 1, 0, 0, 4096, 0, True, 0, ("fresh", 1)),
+        (2, 1, 1, 0, 0, 0, 1, True, 0, ("fresh", 1)),
+        (2, 1, 1, 0, 0, 0, 0, True, 924, ("fresh", 1)),
+        (2, 1, 1, 0, 0, 0, 0, True, 0, ("fresh", 0)),
+        (2, 1, 1, 0, 0, 0, 0, True, 0, ("asked", 2, 1, 1)),
+        (2, 1, 1, 0, 0, 0, 0, True, 0, ("asked", 1, 3, 1)),
+        (2, 1, 1, 0, 0, 1, 0, True, 0, ("resolving", 1, 2, 1)),
+        (2, 1, 1, 1, 0, 0, 0, True, 0, ("urgent", 2)),
+        (2, 1, 1, 0, 5, 0, 0, True, 0, ("long", 4, 3, 3)),
+        (2, 1, 1, 0, 5, 0, 0, True, 0, ("long", 1, 4, 3)),
+        (2, 1, 1, 0, 5, 0, 0, True, 0, ("long", 1, 1, 1)),
+    ):
+        box = given(*values)
+        offered(box, 0)
+        slotted(box, [EMPTY], 0)
+
+
+def rows_refused():
+    """6, 11 and 1 to 4, each also where a later one would come."""
+    box = begin(2, 1, 0)
+    slotted(box, [(1, 0)], 0)
+    slotted(box, [EMPTY, EMPTY, EMPTY], 1)
+    slotted(box, [EMPTY, EMPTY], 0)
+    slotted(box, [(1, 0), EMPTY], 3)
+    slotted(box, [(4096, 0), (1, 0)], 1)
+    slotted(box, [(31, 1), (4096, 0)], 1)
+    slotted(box, [(95, 0), EMPTY], 2)
+    slotted(box, [EMPTY, (0, 1)], 2)
+
+
+def limits_passed():
+    """7 at each limit, and not one below it; 7 before 12."""
+    for before, row in (
+        ((2, 1, 1, 4095, 0, 0, 0, True, 0, ("free",)), [(95, 1), (111, 1)]),
+        ((2, 1, 1, 4094, 0, 0, 0, False, 0, ("free",)), [(95, 1), EMPTY]),
+        ((2, 1, 1, 4095, 0, 0, 0, True, 0, ("free",)), [(95, 1), EMPTY]),
+        ((2, 1, 1, 0, 65535, 0, 0, True, 0, ("free",)), [EMPTY, (95, 2)]),
+        ((2, 1, 1, 0, 65533, 0, 0, True, 0, ("free",)), [EMPTY, (95, 2)]),
+        ((2, 1, 1, 0, 0, 4095, 0, True, 0, ("free",)), [(127, 0), EMPTY]),
+        ((2, 1, 1, 0, 0, 4094, 0, True, 0, ("free",)), [(127, 0), EMPTY]),
+        ((2, 1, 1, 4095, 0, 0, 0, False, 0, ("asked", 1, 1, 1)), [(95, 1), EMPTY]),
+    ):
+        slotted(given(*before), row, 1)
+
+
+def own_hearing():
+    """12: missing or foreign in its own minislot, or itself elsewhere; and each row that a box must take."""
+    asked = (2, 2, 1, 0, 0, 0, 0, True, 0, ("asked", 1, 2, 3))
+    for row in ([EMPTY, EMPTY], [EMPTY, (95, 3)], [EMPTY, (63, 2)], [EMPTY, (4032, 3)], [EMPTY, (223, 0)], [EMPTY, (4064, 1)],
+                [EMPTY, (254, 3)], [(63, 3), (63, 3)], [(63, 3), EMPTY], [EMPTY, (63, 3)], [EMPTY, (127, 255)], [(95, 1), (63, 3)]):
+        slotted(given(*asked), row, 1)
+    for row in ([EMPTY, EMPTY], [(63, 3), EMPTY], [EMPTY, (127, 0)]):
+        slotted(given(2, 2, 2, 0, 0, 0, 0, True, 0, ("asked", 1, 2, 3)), row, 1)
+    for row in ([(63, 1), EMPTY], [(127, 1), (95, 1)]):
+        slotted(begin(2, 1, 0), row, 1)
+
+
+def immediate_success():
+    box = offered(begin(2, 1, 0), 10)
+    box = slotted(box, [EMPTY, EMPTY], 2)
+    slotted(box, [EMPTY, (63, 1)], 1)
+
+
+def collision_then_urgent():
+    box = offered(begin(2, 1, 0), 48)
+    box = slotted(box, [EMPTY, EMPTY], 1)
+    box = slotted(box, [(127, 1), EMPTY], 2)
+    box = slotted(box, [(95, 1), (63, 1)], 1)
+    slotted(box, [EMPTY, EMPTY], 1)
+
+
+def long_preempted():
+    box = offered(begin(2, 1, 0), 100)
+    box = slotted(box, [EMPTY, EMPTY], 1)
+    box = slotted(box, [(63, 3), EMPTY], 1)
+    box = slotted(box, [(95, 1), EMPTY], 1)
+    box = slotted(box, [EMPTY, EMPTY], 1)
+    slotted(box, [EMPTY, EMPTY], 1)
+
+
+def second_in_line():
+    """Two groups: behind another stretch, behind another place of a resolution queue, and a fresh message that must wait."""
+    box = offered(begin(2, 2, 1), 97)
+    box = slotted(box, [EMPTY, EMPTY], 2)
+    box = slotted(box, [(127, 0), EMPTY], 1)
+    box = slotted(box, [(63, 2), (95, 3)], 1)
+    box = slotted(box, [EMPTY, EMPTY], 1)
+    box = slotted(box, [EMPTY, EMPTY], 1)
+    box = slotted(given(2, 2, 1, 0, 0, 2, 0, False, 1, ("resolving", 1, 2, 1)), [EMPTY, EMPTY], 2)
+    box = slotted(box, [EMPTY, EMPTY], 2)
+    box = slotted(box, [EMPTY, EMPTY], 2)
+    slotted(given(2, 1, 1, 0, 0, 1, 0, False, 1, ("fresh", 1)), [EMPTY, EMPTY], 1)
+
+
+def recordings():
+    box = slot_at(offered(begin(2, 1, 0), 10), 0, 1)
+    slot_at(box, 2, 1)
+    slot_at(box, 3, 1)
+    slot_at(box, 4, 2)
+    slot_at(box, 5, 1)
+    slot_at(box, 6, 1)
+    slot_at(box, 7, 1)
+    slot_at(box, 18446744073709551615, 1)
+    slot_at(box, 5, 3)
+
+
+def main():
+    starts()
+    offers()
+    outside_limits()
+    rows_refused()
+    limits_passed()
+    own_hearing()
+    immediate_success()
+    collision_then_urgent()
+    long_preempted()
+    second_in_line()
+    recordings()
+
+
+if __name__ == "__main__":
+    sys.exit(main())
