@@ -1,0 +1,5 @@
+pub mod Steps
+pub mod Moves
+pub mod Whole
+pub mod Pieces
+pub mod Shifts

@@ -1,0 +1,71 @@
+-- `follow_input` is safe and ends. The measure is the number of turns that are left; nothing has to hold from turn to turn.
+-- Assumes nothing.
+use native.Mathlib.Omega.{arith}
+use borrow.Author.Needs.{needs}
+use Rattle.follow.proofs.follow_input.Statement.{statement}
+use Rattle.follow.proofs.follow_input.Tie as tie
+
+abbrev Inv-loop : tie.InvT-loop
+Inv-loop fd name input₀ out₀ at s₀ turns₀ input out s turns = Unit {0}
+
+abbrev μ-loop : tie.MeasureT-loop
+μ-loop fd name input₀ out₀ at s₀ turns₀ input out s turns = turns
+
+large-buffer-requires : tie.Need-large-buffer-requires Inv-loop μ-loop
+large-buffer-requires c κs = search needs
+
+large-buffer-requires-2 : tie.Need-large-buffer-requires-2 Inv-loop μ-loop
+large-buffer-requires-2 c κs = search needs
+
+slice-aggregate-input : tie.Need-slice-aggregate-input Inv-loop μ-loop
+slice-aggregate-input c = search needs
+
+slice-aggregate-out : tie.Need-slice-aggregate-out Inv-loop μ-loop
+slice-aggregate-out c = search needs
+
+put-header-requires : tie.Need-put-header-requires Inv-loop μ-loop
+put-header-requires c κs = search needs
+
+begin-requires : tie.Need-begin-requires Inv-loop μ-loop
+begin-requires c κs = search needs
+
+loop-holds : tie.Need-loop-holds Inv-loop μ-loop
+loop-holds c = tt
+
+turn-requires : tie.Need-turn-requires Inv-loop μ-loop
+turn-requires c κs = search needs
+
+sub-turns : tie.Need-sub-turns Inv-loop μ-loop
+sub-turns c = omega arith
+
+loop-less : tie.Need-loop-less Inv-loop μ-loop
+loop-less c = omega arith
+
+loop-again : tie.Need-loop-again Inv-loop μ-loop
+loop-again c = tt
+
+returns : tie.Need-returns Inv-loop μ-loop
+returns c = search needs
+
+returns-2 : tie.Need-returns-2 Inv-loop μ-loop
+returns-2 c = search needs
+
+pub follow-input-spec : {M : Type 1} → statement M
+follow-input-spec =
+    tie.close
+    (tie.spec
+    Inv-loop
+    μ-loop
+    large-buffer-requires
+    large-buffer-requires-2
+    slice-aggregate-input
+    slice-aggregate-out
+    put-header-requires
+    begin-requires
+    loop-holds
+    turn-requires
+    sub-turns
+    loop-less
+    loop-again
+    returns
+    returns-2)

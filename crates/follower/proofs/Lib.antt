@@ -1,0 +1,4 @@
+pub mod RowReads
+pub mod StartReads
+pub mod CutReads
+pub mod Unwritten

@@ -1,0 +1,56 @@
+-- `put` writes by the kind of line.
+-- Assumes nothing.
+use mathlib.Core.Path.{_≡_, refl, ap, sym, _∙_}
+use Rattle.follower.specs.Following.{bytesOf}
+use Rattle.follower.proofs.Unwritten.{put-nothing}
+use borrow.Author.Needs.{needs}
+use Rattle.follower.proofs.put.Statement.{statement}
+use Rattle.follower.proofs.put.Tie as tie
+
+enum-told : tie.Need-enum-told
+enum-told c = search needs
+
+enum-known-line : tie.Need-enum-known-line
+enum-known-line c = search needs
+
+put-refusal-requires : tie.Need-put-refusal-requires
+put-refusal-requires c κs = search needs
+
+enum-known-line-2 : tie.Need-enum-known-line-2
+enum-known-line-2 c = search needs
+
+put-line-requires : tie.Need-put-line-requires
+put-line-requires c κs = search needs
+
+returns : tie.Need-returns
+unfolding bytesOf
+returns c = rw (c .enum-told .given .1) (put-nothing _ _)
+
+same-length : tie.Need-same-length
+same-length c = search needs
+
+returns-2 : tie.Need-returns-2
+unfolding bytesOf
+returns-2 c = rw (c .before .before .before .before .before .line .given .1) (c .before .before .put-refusal .ensures)
+
+same-length-2 : tie.Need-same-length-2
+same-length-2 c = search needs
+
+returns-3 : tie.Need-returns-3
+unfolding bytesOf
+returns-3 c = rw (c .before .before .before .before .before .line2 .given .1) (c .before .before .put-line .ensures)
+
+pub put-spec : {M : Type 1} → statement M
+put-spec =
+    tie.close
+    (tie.spec
+    enum-told
+    enum-known-line
+    put-refusal-requires
+    enum-known-line-2
+    put-line-requires
+    returns
+    same-length
+    returns-2
+    same-length-2
+    returns-3)

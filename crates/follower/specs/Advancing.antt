@@ -1,0 +1,70 @@
+-- Following a whole recording, record after record (paper 01, "`follow`"): the record that begins at a place of the input, and all that is printed.
+use mathlib.Core.Bool.{Bool, true, false, cond}
+use mathlib.Core.List.{List, [], _∷_, _++_}
+use Prim.Native.Nat.{ℕ, zero, suc, _-_}
+use lib.Dec.{ltb}
+use lib.ListN.{length, take, drop}
+use Rattle.recording.specs.Cutting.{cutOf}
+use Rattle.recording.specs.Lines.{headerOf, placeAfter}
+use Rattle.recording.specs.declared.records.Cut.{Cut}
+use Rattle.recording.specs.declared.records.Cut.the-variants as cut
+use Rattle.follower.specs.declared.Follower.{Follower}
+use Rattle.follower.specs.declared.Step.{Step}
+use Rattle.follower.specs.declared.Line.{Line}
+use Rattle.follower.specs.declared.Line.the-variants.{Nothing, Row, Refusal}
+use Rattle.follower.specs.declared.Advance.{Advance}
+use Rattle.follower.specs.declared.Next.{Next}
+use Rattle.follower.specs.declared.Progress.{Progress}
+use Rattle.follower.specs.declared.Progress.the-variants.{Went, More, Done, Refused}
+use Rattle.follower.specs.Following.{atBegin, bytesOf, followRecord, refusedStep}
+
+-- a refusal ends the output
+abbrev pub progressOf : Line → Progress
+progressOf Nothing = Went
+progressOf (Row slot group letter urgent long resolution) = Went
+progressOf (Refusal number place) = Refused
+
+-- a record that was followed, with the next one at place `next`
+abbrev pub stepAdvance : Step → ℕ → Advance
+stepAdvance s next = record { progress = progressOf (s .line); follower = s .follower; next = next; line = s .line }
+
+-- nothing printed, and nothing changed
+abbrev pub stayAdvance : Progress → Follower → ℕ → Advance
+stayAdvance p f start = record { progress = p; follower = f; next = start; line = Nothing }
+
+-- the input ended: a first record missing is 19
+abbrev pub doneAdvance : Follower → ℕ → Advance
+doneAdvance f start = cond (ltb 1 (f .place)) (stayAdvance Done f start) (stepAdvance (refusedStep f 19) start)
+
+-- the record that begins at place `start`, by where it ends: no record there, or one that breaks the form (19), or one to be followed
+abbrev pub advanceBy : Follower → List ℕ → ℕ → Cut → Advance
+advanceBy f bytes start (cut.Record end next) = stepAdvance (followRecord f (take (end - start) (drop start bytes))) next
+advanceBy f bytes start cut.More = stayAdvance More f start
+advanceBy f bytes start cut.Done = doneAdvance f start
+advanceBy f bytes start cut.Broken = stepAdvance (refusedStep f 19) start
+
+-- THE RECORD THAT BEGINS AT PLACE `start` of `bytes`; `ended`: no byte comes after them
+unfoldable pub advanceOf : Follower → List ℕ → ℕ → Bool → Advance
+advanceOf f bytes start ended = advanceBy f bytes start (cutOf bytes start ended)
+
+-- the answer where an advance's line is put into a buffer from place `at` on
+abbrev pub reached : Advance → List ℕ → ℕ → Next
+reached a buffer at = record { progress = a .progress; follower = a .follower; next = a .next; at = placeAfter buffer at (bytesOf (a .line)) }
+
+-- the record went through, so the next is to be followed
+abbrev pub goesOn : Progress → Bool
+goesOn Went = true
+goesOn More = false
+goesOn Done = false
+goesOn Refused = false
+
+-- the lines of the records from place `start` of the input on, of k records at most: till the input ends or one is refused
+unfoldable pub linesFrom : ℕ → Follower → List ℕ → ℕ → List ℕ
+linesFrom zero f input start = []
+linesFrom (suc k) f input start =
+    let a = advanceOf f input start true in
+    bytesOf (a .line) ++ cond (goesOn (a .progress)) (linesFrom k (a .follower) input (a .next)) []
+
+-- FOLLOWING A RECORDING: the header comes first. No input has more records than bytes.
+unfoldable pub followOf : List ℕ → List ℕ
+followOf input = headerOf ++ linesFrom (suc (length input)) atBegin input 0

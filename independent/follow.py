@@ -1,0 +1,258 @@
+#!/usr/bin/env python3
+"""`follow` written again from the paper's text alone, and the recordings that it is run on.
+
+  follow.py               follow standard input, bytes in and bytes out
+  follow.py list          each recording of the list: a line with its file's name, what is printed for it, and an empty line (crates/follow_run/stdout)
+  follow.py write FOLDER  each recording as FOLDER/NAME.csv (crates/follow_run/data)
+  follow.py try PROGRAM   run PROGRAM on each recording, by standard input, by file name and a few bytes at a time, and compare
+"""
+import os
+import re
+import subprocess
+import sys
+import tempfile
+import time
+
+HEADER = b"slot,group,turn,H,N,RQ\r\n"
+
+
+class Refusal(Exception):
+    pass
+
+
+def minislot(word, count):
+    """Empty is None, Single is its count, Collide is the text 'collide'."""
+    if word >> 12:
+        raise Refusal(1)
+    ones = bin(word).count("1")
+    if 1 <= ones <= 5:
+        raise Refusal(2)
+    if ones == 6 and count == 0:
+        raise Refusal(3)
+    if ones == 0 and count > 0:
+        raise Refusal(4)
+    if ones == 0:
+        return None
+    return count if ones == 6 else "collide"
+
+
+class Listener:
+    def __init__(self, m, n):
+        if not (2 <= m <= 8 and 1 <= n <= 8):
+            raise Refusal(5)
+        self.m, self.n = m, n
+        self.h = self.long = 0
+        self.rq = {g: 0 for g in range(1, n + 1)}
+        self.opened = {g: True for g in range(1, n + 1)}
+        self.group = 1
+
+    def row(self, fields):
+        if len(fields) != 2 * self.m:
+            raise Refusal(6)
+        row = [minislot(fields[2 * i], fields[2 * i + 1]) for i in range(self.m)]
+        g = self.group
+        weight = sum(0 if x is None else 2 if x == "collide" else 1 for x in row)
+        h, long, rq = self.h, self.long, self.rq[g]
+        for x in row:
+            if x is None:
+                continue
+            if x == "collide":
+                rq += 1
+            elif x == 1:
+                if not (self.opened[g] and weight == 1):
+                    h += 1
+            else:
+                long += x
+        if h > 4095 or rq > 4095 or long > 65535:
+            raise Refusal(7)
+        turn = "u" if h else "l" if long else "r" if rq else "o"
+        self.opened[g] = turn == "o"
+        self.h = h - (turn == "u")
+        self.long = long - (turn == "l")
+        self.rq[g] = max(rq - 1, 0)
+        self.group = g % self.n + 1
+        return b"%d,%s,%d,%d,%d\r\n" % (g, turn.encode(), self.h, self.long, self.rq[g])
+
+
+def records(data):
+    """Each record, or None where the form is broken. CR LF ends a record; the last one is optional."""
+    while data:
+        at = data.find(b"\r\n")
+        record, data = (data, b"") if at < 0 else (data[:at], data[at + 2:])
+        if len(record) > 128 or b"\r" in record or b"\n" in record:
+            yield None
+            return
+        yield record
+
+
+FIELD = re.compile(rb"[0-9]{1,5}\Z")
+
+
+def fields_of(record, first):
+    if record is None:
+        raise Refusal(19)
+    parts = record.split(b",")
+    if not all(FIELD.match(p) for p in parts):
+        raise Refusal(19)
+    numbers = [int(p) for p in parts]
+    if first and len(numbers) != 2:
+        raise Refusal(19)
+    if not first and any(x > (255 if i % 2 else 65535) for i, x in enumerate(numbers)):
+        raise Refusal(19)
+    return numbers
+
+
+def follow(data):
+    out = [HEADER]
+    listener = None
+    place = 0
+    try:
+        for record in records(data):
+            place += 1
+            numbers = fields_of(record, place == 1)
+            if place == 1:
+                listener = Listener(*numbers)
+            else:
+                out.append(b"%d," % (place - 1) + listener.row(numbers))
+        if place == 0:
+            place = 1
+            raise Refusal(19)
+    except Refusal as refusal:
+        out.append(b"refused,%d,%d\r\n" % (refusal.args[0], place))
+    return b"".join(out)
+
+
+def lines(*records):
+    return b"".join(r.encode() + b"\r\n" for r in records)
+
+
+def longest(size):
+    """A record of `size` bytes that is all fields of five digits but the last."""
+    text = b",".join([b"00000"] * (size // 6 + 1))[:size]
+    return (text[:-1] + b"0") if text.endswith(b",") else text
+
+
+def resolution():
+    """Three groups with collisions, their resolution, and messages of both kinds."""
+    rows = ["3,3", "127,1,0,0,0,0", "0,0,4095,255,0,0", "63,1,0,0,0,0", "63,1,95,1,0,0", "127,9,255,0,4095,3",
+            "0,0,0,0,0,0", "0,0,0,0,111,4", "0,0,0,0,0,0", "63,2,127,1,119,1", "0,0,0,0,0,0", "0,0,0,0,0,0"]
+    return lines(*(rows + ["0,0,0,0,0,0"] * 24))
+
+
+def cases():
+    yield "example", lines("2,1", "0,0,0,0", "63,1,95,3", "127,3,0,0", "111,1,119,2", "0,0,0,0")
+    yield "empty_input", b""
+    yield "first_record_missing", lines("", "0,0,0,0")
+    yield "cr_lf_alone", b"\r\n"
+    yield "lone_cr", b"2,1\r0,0,0,0\r\n"
+    yield "lone_cr_at_the_end", b"2,1\r\n0,0,0,0\r"
+    yield "lone_lf", b"2,1\r\n0,0,0,0\n0,0,0,0\r\n"
+    yield "lf_first", b"\n2,1\r\n"
+    yield "cr_cr_lf", b"2,1\r\r\n"
+    yield "empty_record", lines("2,1", "0,0,0,0", "", "0,0,0,0")
+    yield "empty_last_record", lines("2,1", "0,0,0,0", "")
+    yield "row_of_128_bytes", b"2,1\r\n" + longest(128) + b"\r\n"
+    yield "row_of_129_bytes", b"2,1\r\n" + longest(129) + b"\r\n"
+    yield "row_of_128_bytes_at_the_end", b"2,1\r\n" + longest(128)
+    yield "row_of_129_bytes_at_the_end", b"2,1\r\n" + longest(129)
+    yield "first_of_128_bytes", longest(128) + b"\r\n"
+    yield "first_of_129_bytes", longest(129) + b"\r\n"
+    yield "nul", b"2,1\r\n0,0,\x000,0\r\n"
+    yield "quote", b'2,1\r\n"0",0,0,0\r\n'
+    yield "space", b"2,1\r\n0, 0,0,0\r\n"
+    yield "sign", b"2,1\r\n+0,0,0,0\r\n"
+    yield "high_byte", b"2,1\r\n0,0,0,0\xff\r\n"
+    yield "leading_zeros", lines("00002,00001", "00063,00001,00095,003")
+    yield "six_digits", lines("2,1", "000063,1,0,0")
+    yield "comma_last", lines("2,1", "63,1,0,0,")
+    yield "comma_first", lines("2,1", ",63,1,0,0")
+    yield "word_65535", lines("2,1", "65535,0,0,0")
+    yield "word_65536", lines("2,1", "65536,0,0,0")
+    yield "count_255", lines("2,1", "63,255,0,0")
+    yield "count_256", lines("2,1", "63,256,0,0")
+    yield "count_256_of_a_row_too_long", lines("2,1", "63,1,0,0,0,256")
+    yield "word_65536_last", lines("2,1", "0,0,0,0,65536")
+    yield "first_one_field", lines("2", "0,0,0,0")
+    yield "first_three_fields", lines("2,1,1", "0,0,0,0")
+    yield "first_m_1", lines("1,1")
+    yield "first_m_9", lines("9,1")
+    yield "first_m_0", lines("0,1")
+    yield "first_n_0", lines("2,0")
+    yield "first_n_9", lines("2,9")
+    yield "first_n_99999", lines("2,99999")
+    yield "first_m_99999", lines("99999,1")
+    yield "first_m_256_and_2", lines("258,1", "0,0,0,0")
+    yield "too_few_fields", lines("2,1", "0,0,0")
+    yield "too_many_fields", lines("2,1", "0,0,0,0,0")
+    yield "a_minislot_too_many", lines("2,1", "0,0,0,0,0,0")
+    yield "six_before_one", lines("2,1", "4096,0,0")
+    yield "number_1", lines("2,1", "4096,0,0,0")
+    yield "number_2", lines("2,1", "62,1,0,0")
+    yield "number_2_in_the_second", lines("2,1", "63,1,31,0")
+    yield "number_3", lines("2,1", "63,0,0,0")
+    yield "number_4", lines("2,1", "0,1,0,0")
+    yield "first_bad_minislot_counts", lines("2,1", "0,1,4096,0")
+    yield "after_a_refusal", lines("2,1", "62,1,0,0", "0,0,0,0")
+    yield "last_cr_lf_missing", b"2,1\r\n63,1,95,3\r\n0,0,0,0"
+    yield "only_the_first", b"8,8"
+    yield "number_7", lines("8,1", *(["63,255," * 7 + "63,255"] * 40))
+    yield "number_7_of_collisions", lines("8,2", *(["127,0," * 7 + "4095,0"] * 1200))
+    yield "number_7_of_singles", lines("8,1", *(["63,1," * 7 + "63,1"] * 600))
+    yield "three_groups", resolution()
+
+
+def shown(name, data):
+    return name.encode() + b".csv\n" + follow(data) + b"\n"
+
+
+def in_pieces(program, data):
+    """The output where the program gets the input in short pieces of changing size."""
+    child = subprocess.Popen([program], stdin=subprocess.PIPE, stdout=subprocess.PIPE)
+    at, size = 0, 1
+    try:
+        while at < len(data) and at < 400:
+            child.stdin.write(data[at:at + size])
+            child.stdin.flush()
+            time.sleep(0.001)
+            at, size = at + size, size % 7 + 1
+        child.stdin.write(data[at:])
+        child.stdin.close()
+    except BrokenPipeError:
+        pass
+    return child.stdout.read()
+
+
+def attempt(program):
+    bad = 0
+    for name, data in cases():
+        want = follow(data)
+        with tempfile.NamedTemporaryFile() as f:
+            f.write(data)
+            f.flush()
+            by_input = subprocess.run([program], input=data, capture_output=True)
+            by_name = subprocess.run([program, f.name], capture_output=True)
+        for how, got, said in (("input", by_input.stdout, by_input.stderr), ("file", by_name.stdout, by_name.stderr), ("pieces", in_pieces(program, data), b"")):
+            if got != want or said:
+                bad += 1
+                print("differs:", name, how, got[-80:], want[-80:], said)
+    print("%d cases, %d differ" % (len(list(cases())), bad))
+    return bad
+
+
+def main(argv):
+    if len(argv) < 2:
+        sys.stdout.buffer.write(follow(sys.stdin.buffer.read()))
+    elif argv[1] == "list":
+        for name, data in cases():
+            sys.stdout.buffer.write(shown(name, data))
+    elif argv[1] == "write":
+        for name, data in cases():
+            with open(os.path.join(argv[2], name + ".csv"), "wb") as f:
+                f.write(data)
+    elif argv[1] == "try":
+        return 1 if attempt(argv[2]) else 0
+    return 0
+
+
+if __name__ == "__main__":
+    sys.exit(main(sys.argv))
