@@ -48,3 +48,4 @@ pub mod ListeningLaws
 pub mod ChangesHold
 pub mod EdgesHold
 pub mod StationLaws
+pub mod SoundnessLaws

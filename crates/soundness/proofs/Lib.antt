@@ -1,0 +1,4 @@
+pub mod Blank
+pub mod Parts
+pub mod Laws
+pub mod WireLaws
