@@ -1,7 +1,7 @@
 -- A loop that goes through a list from its front: what is left after i elements, and how the tests and sums over what is left fall by the next element. So a
 -- loop's invariant is that what it holds, with the test or sum over the rest, makes that over the whole list. Assumes nothing.
 use mathlib.Core.Path.{_≡_, refl, sym, ap, _∙_}
-use mathlib.Core.Bool.{Bool, true, false, _&&_, cond, Bool·beq}
+use mathlib.Core.Bool.{Bool, true, false, Bool·beq}
 use mathlib.Core.List.{List, [], _∷_, _++_, map, append-assoc}
 use Prim.Native.Nat.{ℕ, zero, suc, _+_, _≤_, _<_}
 use native.Mathlib.Nat.{zero-add}
@@ -53,9 +53,6 @@ module _ {A : Type 0} {l r : List A} {x : A} (e : l ≡ x ∷ r) where
 
   pub sum-next : (f : A → ℕ) → sumOf f l ≡ f x + sumOf f r
   sum-next f = rw e
-
-  pub count-next : (test : A → Bool) → countOf test l ≡ cond (test x) 1 0 + countOf test r
-  count-next test = rw e
 
 -- ---- what elements give, gathered into the front of an array
 

@@ -8,7 +8,7 @@ use Prim.Native.Nat.{ℕ, zero, suc, _-_, _≤_, _<_}
 use native.Mathlib.Decide.{ℕ-discrete}
 use native.Mathlib.Omega.{arith}
 use lib.Dec.{leb, eqb, eqb·zero-suc, eqb·suc-suc}
-use lib.ListN.{length, getD, set, take, replicate, length-set, length-replicate, getD-replicate}
+use lib.ListN.{length, getD, set, take, replicate, length-set, getD-replicate}
 use lib.Seq.{getD-set-same, getD-set-other, take-suc}
 use borrow.Author.Tests.{leb-true, le-leb, eq-eqb, ne-eqb, eqb-true}
 use Rattle.pattern.specs.Patterns.{wordOf}
@@ -19,13 +19,13 @@ use Rattle.rules.specs.declared.Condition.{Condition}
 use Rattle.rules.specs.declared.Condition.the-variants.{Free, Fresh, Asked, Resolving, Urgent, Long}
 use Rattle.rules.specs.declared.Station.{Station}
 use Rattle.rules.specs.declared.Row.{Row}
-use Rattle.rules.specs.Lists.{gatherOf, onlyIf}
+use Rattle.rules.specs.Lists.{onlyIf}
 use Rattle.rules.specs.Limits.{between}
 use Rattle.rules.specs.Soundness.{askedRequest, askedRequests, askedMinislot, sameMinislot, rowSound}
 use Rattle.rules.proofs.SoundnessLaws.{gather-append}
 use Rattle.rules.proofs.SlotStep.{and-both}
 use Rattle.soundness.specs.declared.Asking.{Asking}
-use Rattle.soundness.specs.Wire.{nowhere, askingOf, emptyRow, slotAt, joinedAt, withRequest, Carries, rowLike}
+use Rattle.soundness.specs.Wire.{askingOf, emptyRow, slotAt, joinedAt, withRequest, Carries, rowLike}
 use Rattle.soundness.proofs.Laws.{and-same, every-same}
 
 joined-none : (a : Minislot) → joined a silent ≡ a

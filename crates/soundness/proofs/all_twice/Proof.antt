@@ -1,6 +1,6 @@
 -- `all_twice` counts each place in turn: what is left of the list tests as the whole. Assumes nothing.
 use mathlib.Core.Path.{_≡_, refl, sym, _∙_}
-use Prim.Native.Nat.{_+_, _-_, _≤_, _<_}
+use Prim.Native.Nat.{_-_, _≤_, _<_}
 use native.Mathlib.Omega.{arith}
 use borrow.Author.Needs.{needs}
 use borrow.Author.Tests.{le-leb, lt-leb}
@@ -31,7 +31,8 @@ times-requires : tie.Need-times-requires Inv-loop μ-loop
 times-requires c κs = search needs
 
 returns : tie.Need-returns Inv-loop μ-loop
-returns c = let l = c .before .before .before .before .loop in
+returns c =
+    let l = c .before .before .before .before .loop in
     let a = c .before .before .before .before .before .before .args in
     let n : countOf (eqb (getD (a .places .now) (l .i) 0)) (a .places .now) < 2 = omega (arith, c .before .times .ensures) in
     sym (sym (l .inv .1) ∙ each-stop (rest (a .places .now) (l .i) 0 (omega arith)) (namedTwice (a .places .now)) (lt-leb 2 _ n))
@@ -43,7 +44,8 @@ loop-less : tie.Need-loop-less Inv-loop μ-loop
 loop-less c = search needs
 
 loop-again : tie.Need-loop-again Inv-loop μ-loop
-loop-again c = let l = c .before .before .before .before .loop in
+loop-again c =
+    let l = c .before .before .before .before .loop in
     let a = c .before .before .before .before .before .before .args in
     let n : 2 ≤ countOf (eqb (getD (a .places .now) (l .i) 0)) (a .places .now) = omega (arith, c .before .times .ensures) in (
       omega arith,
@@ -51,7 +53,8 @@ loop-again c = let l = c .before .before .before .before .loop in
     )
 
 returns-2 : tie.Need-returns-2 Inv-loop μ-loop
-returns-2 c = let l = c .before .loop in
+returns-2 c =
+    let l = c .before .loop in
     let a = c .before .before .before .args in
     let h : length (a .places .now) ≤ l .i = omega arith in
     rw (drop-of-length-le (a .places .now) h) at (l .inv .1)

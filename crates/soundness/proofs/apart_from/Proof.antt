@@ -1,6 +1,6 @@
 -- `apart_from` tests one stretch after the other: what is left of the list tests as all of it. Assumes nothing.
 use mathlib.Core.Path.{_≡_, refl, sym, _∙_}
-use Prim.Native.Nat.{_+_, _-_, _≤_}
+use Prim.Native.Nat.{_-_, _≤_}
 use native.Mathlib.Omega.{arith}
 use borrow.Author.Needs.{needs}
 use borrow.Author.Tests.{not-true, not-false}
@@ -31,7 +31,8 @@ spans-apart-requires : tie.Need-spans-apart-requires Inv-loop μ-loop
 spans-apart-requires c κs = search needs
 
 returns : tie.Need-returns Inv-loop μ-loop
-returns c = let l = c .before .before .before .before .loop in
+returns c =
+    let l = c .before .before .before .before .loop in
     let a = c .before .before .before .before .before .args in
     let w : length (a .t2) ≡ 64 = search needs in
     let e = first-rest (a .t2) (a .count) (omega arith) (l .i) blankSpan (omega arith) in
@@ -44,7 +45,8 @@ loop-less : tie.Need-loop-less Inv-loop μ-loop
 loop-less c = search needs
 
 loop-again : tie.Need-loop-again Inv-loop μ-loop
-loop-again c = let l = c .before .before .before .before .loop in
+loop-again c =
+    let l = c .before .before .before .before .loop in
     let a = c .before .before .before .before .before .args in
     let w : length (a .t2) ≡ 64 = search needs in
     let e = first-rest (a .t2) (a .count) (omega arith) (l .i) blankSpan (omega arith) in (
@@ -53,7 +55,8 @@ loop-again c = let l = c .before .before .before .before .loop in
     )
 
 returns-2 : tie.Need-returns-2 Inv-loop μ-loop
-returns-2 c = let l = c .before .loop in
+returns-2 c =
+    let l = c .before .loop in
     let a = c .before .before .args in
     let w : length (a .t2) ≡ 64 = search needs in
     rw (first-none (a .t2) (a .count) (omega arith) (l .i) (omega arith)) at (l .inv .1)

@@ -2,7 +2,7 @@
 -- Assumes nothing.
 use mathlib.Core.Path.{_≡_, refl, sym, ap, _∙_}
 use mathlib.Core.Bool.{Bool}
-use Prim.Native.Nat.{_+_, _-_, _≤_}
+use Prim.Native.Nat.{_-_, _≤_}
 use native.Mathlib.Omega.{arith}
 use borrow.Author.Needs.{needs}
 use borrow.Author.Tests.{not-true, not-false}
@@ -29,7 +29,8 @@ array-copy-out-first : tie.Need-array-copy-out-first Inv-loop μ-loop
 array-copy-out-first c = search needs
 
 loop-holds : tie.Need-loop-holds Inv-loop μ-loop
-loop-holds c = let a = c .before .before .args in
+loop-holds c =
+    let a = c .before .before .args in
     let w : length (a .t1) ≡ 64 = search needs in
     (omega arith, first-counters (a .t1) (a .count) blank (omega arith) (omega arith), refl)
 
@@ -44,7 +45,8 @@ same-counters-requires c κs = search needs
 
 returns : tie.Need-returns Inv-loop μ-loop
 unfolding countersShared
-returns c = let l = c .before .before .before .before .before .loop in
+returns c =
+    let l = c .before .before .before .before .before .loop in
     let a = c .before .before .before .before .before .before .before .before .args in
     let w : length (a .t1) ≡ 64 = search needs in
     let e = first-rest (a .t1) (a .count) (omega arith) (l .i) blank (omega arith) in
@@ -57,7 +59,8 @@ loop-less : tie.Need-loop-less Inv-loop μ-loop
 loop-less c = search needs
 
 loop-again : tie.Need-loop-again Inv-loop μ-loop
-loop-again c = let l = c .before .before .before .before .before .loop in
+loop-again c =
+    let l = c .before .before .before .before .before .loop in
     let a = c .before .before .before .before .before .before .before .before .args in
     let w : length (a .t1) ≡ 64 = search needs in
     let e = first-rest (a .t1) (a .count) (omega arith) (l .i) blank (omega arith) in (
@@ -68,7 +71,8 @@ loop-again c = let l = c .before .before .before .before .before .loop in
 
 returns-2 : tie.Need-returns-2 Inv-loop μ-loop
 unfolding countersShared
-returns-2 c = let l = c .before .loop in
+returns-2 c =
+    let l = c .before .loop in
     let a = c .before .before .before .before .args in
     let w : length (a .t1) ≡ 64 = search needs in
     (rw (first-none (a .t1) (a .count) (omega arith) (l .i) (omega arith)) at (l .inv .2)) ∙ sym (ap (λ (k : Counters). each (alike k) (take (a .count) (a .t1))) (l .inv .1))

@@ -1,6 +1,6 @@
 -- `differs` tests one number after the other: what is left of the list tests as the whole. Assumes nothing.
 use mathlib.Core.Path.{_≡_, refl, sym, _∙_}
-use Prim.Native.Nat.{_+_, _-_, _≤_}
+use Prim.Native.Nat.{_-_, _≤_}
 use native.Mathlib.Omega.{arith}
 use borrow.Author.Needs.{needs}
 use borrow.Author.Tests.{eq-eqb, ne-eqb}
@@ -27,7 +27,8 @@ shared-slice-read-if1 : tie.Need-shared-slice-read-if1 Inv-loop μ-loop
 shared-slice-read-if1 c = search needs
 
 returns : tie.Need-returns Inv-loop μ-loop
-returns c = let l = c .before .before .before .loop in
+returns c =
+    let l = c .before .before .before .loop in
     let a = c .before .before .before .before .args in
     sym (sym (l .inv .1) ∙ each-stop (rest (a .numbers .now) (l .i) 0 (omega arith)) (differ (a .x)) (rw (eq-eqb _ _ (c .if1 .taken))))
 
@@ -38,14 +39,16 @@ loop-less : tie.Need-loop-less Inv-loop μ-loop
 loop-less c = search needs
 
 loop-again : tie.Need-loop-again Inv-loop μ-loop
-loop-again c = let l = c .before .before .before .loop in
+loop-again c =
+    let l = c .before .before .before .loop in
     let a = c .before .before .before .before .args in (
       omega arith,
       sym (each-next (rest (a .numbers .now) (l .i) 0 (omega arith)) (differ (a .x)) (rw (ne-eqb _ _ (c .if1 .left)))) ∙ l .inv .1,
     )
 
 returns-2 : tie.Need-returns-2 Inv-loop μ-loop
-returns-2 c = let l = c .before .loop in
+returns-2 c =
+    let l = c .before .loop in
     let a = c .before .before .args in
     let h : length (a .numbers .now) ≤ l .i = omega arith in
     rw (drop-of-length-le (a .numbers .now) h) at (l .inv .1)

@@ -1,11 +1,11 @@
 -- `distinct` compares each number with those behind it: what is left of the list tests as the whole. Assumes nothing.
-use mathlib.Core.Path.{_≡_, refl, sym, ap, _∙_}
+use mathlib.Core.Path.{_≡_, refl, sym, _∙_}
 use Prim.Native.Nat.{_+_, _-_, _≤_}
 use native.Mathlib.Omega.{arith}
 use borrow.Author.Needs.{needs}
 use borrow.Author.Tests.{not-true, not-false}
 use lib.ListN.{length, drop, drop-of-length-le}
-use Rattle.rules.specs.Lists.{each, eachPair}
+use Rattle.rules.specs.Lists.{eachPair}
 use Rattle.rules.specs.Soundness.{differ}
 use Rattle.rules.proofs.SoundnessLaws.{rest, pairs-next, pairs-stop}
 use Rattle.soundness.proofs.Parts.{to-end}
@@ -46,7 +46,8 @@ differs-requires : tie.Need-differs-requires Inv-loop μ-loop
 differs-requires c κs = search needs
 
 returns : tie.Need-returns Inv-loop μ-loop
-returns c = let l = c .before .before .before .before .before .loop in
+returns c =
+    let l = c .before .before .before .before .before .loop in
     let a = c .before .before .before .before .before .before .before .args in
     let e = rw (to-end (a .numbers .now) (l .i + 1)) at (c .before .differs .ensures) in
     sym (sym (l .inv .1) ∙ pairs-stop (rest (a .numbers .now) (l .i) 0 (omega arith)) differ (sym e ∙ not-true _ (c .if1 .taken)))
@@ -58,7 +59,8 @@ loop-less : tie.Need-loop-less Inv-loop μ-loop
 loop-less c = search needs
 
 loop-again : tie.Need-loop-again Inv-loop μ-loop
-loop-again c = let l = c .before .before .before .before .before .loop in
+loop-again c =
+    let l = c .before .before .before .before .before .loop in
     let a = c .before .before .before .before .before .before .before .args in
     let e = rw (to-end (a .numbers .now) (l .i + 1)) at (c .before .differs .ensures) in (
       omega arith,
@@ -66,7 +68,8 @@ loop-again c = let l = c .before .before .before .before .before .loop in
     )
 
 returns-2 : tie.Need-returns-2 Inv-loop μ-loop
-returns-2 c = let l = c .before .loop in
+returns-2 c =
+    let l = c .before .loop in
     let a = c .before .before .before .args in
     let h : length (a .numbers .now) ≤ l .i = omega arith in
     rw (drop-of-length-le (a .numbers .now) h) at (l .inv .1)

@@ -1,6 +1,6 @@
 -- `expected_wire` joins one station's request after the other: after i of them the wire carries those of the first i. Assumes nothing.
-use mathlib.Core.Path.{_≡_, refl, sym, ap, subst, _∙_}
-use Prim.Native.Nat.{ℕ, suc, _+_, _-_, _≤_, _<_}
+use mathlib.Core.Path.{_≡_, sym, ap, subst, _∙_}
+use Prim.Native.Nat.{ℕ, suc, _-_, _≤_}
 use native.Mathlib.Numerals.{add-one}
 use native.Mathlib.Omega.{arith}
 use borrow.Author.Needs.{needs}
@@ -49,7 +49,8 @@ loop-less : tie.Need-loop-less Inv-loop μ-loop
 loop-less c = search needs
 
 loop-again : tie.Need-loop-again Inv-loop μ-loop
-loop-again c = let l = c .before .before .before .before .before .before .loop in
+loop-again c =
+    let l = c .before .before .before .before .before .before .loop in
     let a = c .before .before .before .before .before .before .before .before .args in
     let w : length (a .t1) ≡ 64 = search needs in
     let s = getD (a .t1) (l .i) blank in
@@ -61,7 +62,8 @@ loop-again c = let l = c .before .before .before .before .before .before .loop i
     )
 
 returns : tie.Need-returns Inv-loop μ-loop
-returns c = let l = c .before .loop in
+returns c =
+    let l = c .before .loop in
     let a = c .before .before .before .args in
     let e : l .i ≡ a .count = omega arith in
     subst (λ (n : ℕ). Carries (l .wire) (take n (a .t1))) e (l .inv .2)

@@ -1,9 +1,9 @@
 -- `groups_sound` tests the queue of one group after the other: each one before g passed, and one that fails fails the list.
 -- Assumes nothing.
-use mathlib.Core.Path.{_≡_, refl, sym, _∙_}
+use mathlib.Core.Path.{_≡_, sym, _∙_}
 use mathlib.Core.Bool.{Bool, true}
 use mathlib.Core.List.{List}
-use Prim.Native.Nat.{ℕ, suc, _+_, _-_, _≤_, _<_}
+use Prim.Native.Nat.{ℕ, suc, _-_, _≤_, _<_}
 use native.Mathlib.Numerals.{add-one}
 use native.Mathlib.Omega.{arith}
 use borrow.Author.Needs.{needs}
@@ -45,10 +45,11 @@ group-sound-requires : tie.Need-group-sound-requires Inv-loop μ-loop
 group-sound-requires c κs = search needs
 
 returns : tie.Need-returns Inv-loop μ-loop
-returns c = let l = c .before .before .before .loop in
+returns c =
+    let l = c .before .before .before .loop in
     let a = c .before .before .before .before .args in
     let v : length (a .t1) ≡ 8 = search needs in
-    let e = rw add-one at (c .before .group-sound .ensures) in
+    let e : c .before .group-sound .result ≡ at (take (a .count) (a .spots)) (l .g) (getD (a .t1) (l .g) 0) = rw add-one at (c .before .group-sound .ensures) in
     sym (every-fails (at (take (a .count) (a .spots))) 0 (a .t1) (l .g) (omega arith) (sym e ∙ not-true _ (c .if1 .taken)))
 
 add-g : tie.Need-add-g Inv-loop μ-loop
@@ -58,11 +59,15 @@ loop-less : tie.Need-loop-less Inv-loop μ-loop
 loop-less c = search needs
 
 loop-again : tie.Need-loop-again Inv-loop μ-loop
-loop-again c = let e = rw add-one at (c .before .group-sound .ensures) in
+loop-again c =
+    let l = c .before .before .before .loop in
+    let a = c .before .before .before .before .args in
+    let e : c .before .group-sound .result ≡ at (take (a .count) (a .spots)) (l .g) (getD (a .t1) (l .g) 0) = rw add-one at (c .before .group-sound .ensures) in
     (omega arith, below-more _ _ (c .before .before .before .loop .inv .1) (sym e ∙ not-false _ (c .if1 .left)))
 
 returns-2 : tie.Need-returns-2 Inv-loop μ-loop
-returns-2 c = let l = c .before .loop in
+returns-2 c =
+    let l = c .before .loop in
     let a = c .before .before .args in
     let v : length (a .t1) ≡ 8 = search needs in
     sym (every-holds (at (take (a .count) (a .spots))) 0 (a .t1) (λ k h. l .inv .1 k (omega arith)))

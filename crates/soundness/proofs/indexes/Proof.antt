@@ -1,5 +1,5 @@
 -- `indexes` stores each station's index: the indexes stored, and those of what is left of the table, are the table's. Assumes nothing.
-use mathlib.Core.Path.{_≡_, refl, sym, _∙_}
+use mathlib.Core.Path.{_≡_, refl}
 use mathlib.Core.List.{_++_, map, append-nil, append-assoc}
 use Prim.Native.Nat.{_+_, _-_, _≤_, _<_}
 use native.Mathlib.Numerals.{add-one}
@@ -41,7 +41,8 @@ loop-less : tie.Need-loop-less Inv-loop μ-loop
 loop-less c = search needs
 
 loop-again : tie.Need-loop-again Inv-loop μ-loop
-loop-again c = let l = c .before .before .loop in
+loop-again c =
+    let l = c .before .before .loop in
     let a = c .before .before .before .args in
     let w : length (a .t1) ≡ 64 = search needs in
     let k : l .i < length (l .list) = omega arith in (
@@ -51,7 +52,8 @@ loop-again c = let l = c .before .before .loop in
     )
 
 returns : tie.Need-returns Inv-loop μ-loop
-returns c = let l = c .before .loop in
+returns c =
+    let l = c .before .loop in
     let a = c .before .before .args in
     let w : length (a .t1) ≡ 64 = search needs in
     let e : l .i ≡ a .count = omega arith in

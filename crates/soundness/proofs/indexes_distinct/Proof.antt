@@ -1,7 +1,5 @@
 -- `indexes_distinct` tests the indexes drawn out of the table. Assumes nothing.
 use mathlib.Core.Path.{_≡_, sym, ap, _∙_}
-use mathlib.Core.List.{map}
-use Prim.Native.Nat.{_≤_}
 use native.Mathlib.Omega.{arith}
 use borrow.Author.Needs.{needs}
 use lib.ListN.{length, take}
@@ -20,7 +18,8 @@ array-share-prefix-list : tie.Need-array-share-prefix-list
 array-share-prefix-list c = search needs
 
 slice-aggregate-distinct : tie.Need-slice-aggregate-distinct
-slice-aggregate-distinct c = let r = c .before .indexes .result in
+slice-aggregate-distinct c =
+    let r = c .before .indexes .result in
     let w : length r ≡ 64 = search needs in
     sym (length-take-le (c .before .before .args .count) r (omega arith))
 

@@ -1,6 +1,5 @@
 -- `long_sound` compares the slots left with N, then the stretches with each other. Assumes nothing.
-use mathlib.Core.Path.{_≡_, sym, ap, _∙_}
-use Prim.Native.Nat.{ℕ, _≤_}
+use mathlib.Core.Path.{_≡_, ap, _∙_}
 use native.Mathlib.Omega.{arith}
 use borrow.Author.Needs.{needs}
 use borrow.Author.Tests.{eq-eqb, ne-eqb}
@@ -29,7 +28,8 @@ slots-left-requires c κs = search needs
 
 returns : tie.Need-returns
 unfolding longSound
-returns c = let a = c .before .before .before .before .before .before .before .args in
+returns c =
+    let a = c .before .before .before .before .before .before .before .args in
     let w : length (a .t1) ≡ 64 = search needs in
     let n = c .before .slots-left .ensures ∙ ap (sumOf leftIn) (c .before .before .before .long-spans .ensures .2) in
     let h = ap (λ (k : Counters). k .long) (first-counters (a .t1) (a .count) blank (omega arith) (omega arith)) in
@@ -40,7 +40,8 @@ all-apart-requires c κs = search needs
 
 returns-2 : tie.Need-returns-2
 unfolding longSound
-returns-2 c = let a = c .before .before .before .before .before .before .before .before .args in
+returns-2 c =
+    let a = c .before .before .before .before .before .before .before .before .args in
     let w : length (a .t1) ≡ 64 = search needs in
     let n = c .before .before .slots-left .ensures ∙ ap (sumOf leftIn) (c .before .before .before .before .long-spans .ensures .2) in
     let h = ap (λ (k : Counters). k .long) (first-counters (a .t1) (a .count) blank (omega arith) (omega arith)) in

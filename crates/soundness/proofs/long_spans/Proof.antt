@@ -1,9 +1,9 @@
 -- `long_spans` stores the stretch of each long station: the stretches stored, and those of what is left of the table, are the table's.
 -- Assumes nothing.
-use mathlib.Core.Path.{_≡_, refl, sym, ap, _∙_}
-use mathlib.Core.List.{List, [], _∷_, _++_, append-nil}
+use mathlib.Core.Path.{_≡_, refl, _∙_}
+use mathlib.Core.List.{[], _∷_, _++_, append-nil}
 use mathlib.Core.Logic.{⊎-elim}
-use Prim.Native.Nat.{ℕ, _+_, _-_, _≤_, _<_}
+use Prim.Native.Nat.{_+_, _-_, _≤_}
 use native.Mathlib.Omega.{arith}
 use borrow.Author.Needs.{needs}
 use lib.ListN.{length, take, drop, length-set}
@@ -48,7 +48,8 @@ loop-less : tie.Need-loop-less Inv-loop μ-loop
 loop-less c = search needs
 
 loop-again : tie.Need-loop-again Inv-loop μ-loop
-loop-again c = let l = c .before .before .before .before .loop in
+loop-again c =
+    let l = c .before .before .before .before .loop in
     let a = c .before .before .before .before .before .args in
     let w : length (a .t1) ≡ 64 = search needs in
     let e = first-rest (a .t1) (a .count) (omega arith) (l .i) blank (omega arith) in
@@ -71,7 +72,8 @@ loop-again c = let l = c .before .before .before .before .loop in
     (c .if1 .came)
 
 returns : tie.Need-returns Inv-loop μ-loop
-returns c = let l = c .before .loop in
+returns c =
+    let l = c .before .loop in
     let a = c .before .before .args in
     let w : length (a .t1) ≡ 64 = search needs in
     (omega arith, l .inv .2, rw (first-none (a .t1) (a .count) (omega arith) (l .i) (omega arith), append-nil) at (l .inv .3))

@@ -1,13 +1,13 @@
 -- `places_in` stores the places of one group: the places stored, and those of what is left of the list, are the list's. Assumes nothing.
-use mathlib.Core.Path.{_≡_, refl, sym, ap, _∙_}
-use mathlib.Core.List.{List, [], _∷_, _++_, append-nil}
+use mathlib.Core.Path.{_≡_, refl}
+use mathlib.Core.List.{[], _∷_, _++_, append-nil}
 use mathlib.Core.Logic.{⊎-elim}
-use Prim.Native.Nat.{ℕ, _+_, _-_, _≤_, _<_}
+use Prim.Native.Nat.{_+_, _-_, _≤_}
 use native.Mathlib.Omega.{arith}
 use borrow.Author.Needs.{needs}
 use borrow.Author.Tests.{eq-eqb, ne-eqb}
 use lib.ListN.{length, take, drop, getD, length-set}
-use Rattle.rules.specs.Lists.{gatherOf, onlyIf}
+use Rattle.rules.specs.Lists.{gatherOf}
 use Rattle.rules.proofs.SoundnessLaws.{first-rest, first-none, gather-one, gather-none}
 use Rattle.soundness.specs.Columns.{placeIn}
 use Rattle.soundness.proofs.Blank.{blankSpot}
@@ -45,7 +45,8 @@ loop-less : tie.Need-loop-less Inv-loop μ-loop
 loop-less c = search needs
 
 loop-again : tie.Need-loop-again Inv-loop μ-loop
-loop-again c = let l = c .before .before .before .before .loop in
+loop-again c =
+    let l = c .before .before .before .before .loop in
     let a = c .before .before .before .before .before .args in
     let w : length (a .t1) ≡ 64 = search needs in
     let s = getD (a .t1) (l .i) blankSpot in
@@ -68,7 +69,8 @@ loop-again c = let l = c .before .before .before .before .loop in
     (c .if1 .came)
 
 returns : tie.Need-returns Inv-loop μ-loop
-returns c = let l = c .before .loop in
+returns c =
+    let l = c .before .loop in
     let a = c .before .before .args in
     let w : length (a .t1) ≡ 64 = search needs in
     (omega arith, rw (first-none (a .t1) (a .count) (omega arith) (l .i) (omega arith), append-nil) at (l .inv .3))

@@ -1,6 +1,6 @@
 -- `records_within` tests one record after the other: what is left of the table tests as the whole. Assumes nothing.
 use mathlib.Core.Path.{_≡_, refl, sym, _∙_}
-use Prim.Native.Nat.{_+_, _-_, _≤_}
+use Prim.Native.Nat.{_-_, _≤_}
 use native.Mathlib.Omega.{arith}
 use borrow.Author.Needs.{needs}
 use borrow.Author.Tests.{not-true, not-false}
@@ -33,7 +33,8 @@ within-requires c κs = search needs
 
 returns : tie.Need-returns Inv-loop μ-loop
 unfolding recordsWithin
-returns c = let l = c .before .before .before .before .loop in
+returns c =
+    let l = c .before .before .before .before .loop in
     let a = c .before .before .before .before .before .args in
     let w : length (a .t1) ≡ 64 = search needs in
     sym (sym (l .inv .1) ∙ each-stop (first-rest (a .t1) (a .count) (omega arith) (l .i) blank (omega arith)) stationWithin (sym (c .before .within .ensures) ∙ not-true _ (c .if1 .taken)))
@@ -45,7 +46,8 @@ loop-less : tie.Need-loop-less Inv-loop μ-loop
 loop-less c = search needs
 
 loop-again : tie.Need-loop-again Inv-loop μ-loop
-loop-again c = let l = c .before .before .before .before .loop in
+loop-again c =
+    let l = c .before .before .before .before .loop in
     let a = c .before .before .before .before .before .args in
     let w : length (a .t1) ≡ 64 = search needs in (
       omega arith,
@@ -54,7 +56,8 @@ loop-again c = let l = c .before .before .before .before .loop in
 
 returns-2 : tie.Need-returns-2 Inv-loop μ-loop
 unfolding recordsWithin
-returns-2 c = let l = c .before .loop in
+returns-2 c =
+    let l = c .before .loop in
     let a = c .before .before .args in
     let w : length (a .t1) ≡ 64 = search needs in
     (rw (first-none (a .t1) (a .count) (omega arith) (l .i) (omega arith)) at (l .inv .1))

@@ -2,7 +2,7 @@
 use mathlib.Core.Path.{_≡_, sym, ap, _∙_}
 use mathlib.Core.Bool.{Bool}
 use mathlib.Core.List.{List}
-use Prim.Native.Nat.{ℕ, suc, _≤_}
+use Prim.Native.Nat.{ℕ, suc}
 use native.Mathlib.Omega.{arith}
 use borrow.Author.Needs.{needs}
 use lib.ListN.{length, take, getD}
@@ -40,7 +40,8 @@ groups-sound-requires c κs = search needs
 
 returns : tie.Need-returns
 unfolding resolutionSound
-returns c = let a = c .before .before .before .before .before .before .args in
+returns c =
+    let a = c .before .before .before .before .before .before .args in
     let l = take (a .count) (a .t1) in
     let r = c .before .before .resolving-spots .result in
     let w : length (a .t1) ≡ 64 = search needs in

@@ -1,7 +1,7 @@
 -- `same_marks` compares two arrays element by element: what is left of both compares as the whole. Assumes nothing.
 use mathlib.Core.Path.{_≡_, refl, sym, _∙_}
 use mathlib.Core.Bool.{false}
-use Prim.Native.Nat.{_+_, _-_, _≤_}
+use Prim.Native.Nat.{_-_, _≤_}
 use native.Mathlib.Omega.{arith}
 use borrow.Author.Needs.{needs}
 use borrow.Author.Tests.{not-true, not-false}
@@ -30,7 +30,8 @@ same-mark-requires : tie.Need-same-mark-requires Inv-loop μ-loop
 same-mark-requires c κs = search needs
 
 returns : tie.Need-returns Inv-loop μ-loop
-returns c = let l = c .before .before .before .loop in
+returns c =
+    let l = c .before .before .before .loop in
     let a = c .before .before .before .before .args in
     let w : length (a .t1) ≡ 8 = search needs in
     let v : length (a .t2) ≡ 8 = search needs in
@@ -43,7 +44,8 @@ loop-less : tie.Need-loop-less Inv-loop μ-loop
 loop-less c = search needs
 
 loop-again : tie.Need-loop-again Inv-loop μ-loop
-loop-again c = let l = c .before .before .before .loop in
+loop-again c =
+    let l = c .before .before .before .loop in
     let a = c .before .before .before .before .args in
     let w : length (a .t1) ≡ 8 = search needs in
     let v : length (a .t2) ≡ 8 = search needs in (
@@ -52,7 +54,8 @@ loop-again c = let l = c .before .before .before .loop in
     )
 
 returns-2 : tie.Need-returns-2 Inv-loop μ-loop
-returns-2 c = let l = c .before .loop in
+returns-2 c =
+    let l = c .before .loop in
     let a = c .before .before .args in
     let w : length (a .t1) ≤ l .i = search needs in
     let v : length (a .t2) ≤ l .i = search needs in

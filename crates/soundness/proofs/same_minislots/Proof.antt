@@ -43,7 +43,8 @@ same-minislot-requires : tie.Need-same-minislot-requires Inv-loop μ-loop
 same-minislot-requires c κs = search needs
 
 returns : tie.Need-returns Inv-loop μ-loop
-returns c = let l = c .before .before .before .before .before .loop in
+returns c =
+    let l = c .before .before .before .before .before .loop in
     let a = c .before .before .before .before .before .before .args in
     let v : length (a .t1) ≡ 8 = search needs in
     (v, sym (every-fails (same (a .t2)) silent (a .t1) (l .j) (omega arith) (sym (c .before .same-minislot .ensures) ∙ not-true _ (c .if1 .taken))))
@@ -58,7 +59,8 @@ loop-again : tie.Need-loop-again Inv-loop μ-loop
 loop-again c = (omega arith, below-more _ _ (c .before .before .before .before .before .loop .inv .1) (sym (c .before .same-minislot .ensures) ∙ not-false _ (c .if1 .left)))
 
 returns-2 : tie.Need-returns-2 Inv-loop μ-loop
-returns-2 c = let l = c .before .loop in
+returns-2 c =
+    let l = c .before .loop in
     let a = c .before .before .args in
     let v : length (a .t1) ≡ 8 = search needs in
     (v, sym (every-holds (same (a .t2)) silent (a .t1) (λ k h. l .inv .1 k (omega arith))))

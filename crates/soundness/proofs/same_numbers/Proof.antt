@@ -1,6 +1,6 @@
 -- `same_numbers` compares two arrays element by element: what is left of both compares as the whole. Assumes nothing.
 use mathlib.Core.Path.{_≡_, refl, sym, _∙_}
-use Prim.Native.Nat.{_+_, _-_, _≤_}
+use Prim.Native.Nat.{_-_, _≤_}
 use native.Mathlib.Omega.{arith}
 use borrow.Author.Needs.{needs}
 use borrow.Author.Tests.{eq-eqb, ne-eqb}
@@ -32,7 +32,8 @@ array-read-if1-2 : tie.Need-array-read-if1-2 Inv-loop μ-loop
 array-read-if1-2 c = search needs
 
 returns : tie.Need-returns Inv-loop μ-loop
-returns c = let l = c .before .before .loop in
+returns c =
+    let l = c .before .before .loop in
     let a = c .before .before .before .args in
     let w : length (a .t1) ≡ 8 = search needs in
     let v : length (a .t2) ≡ 8 = search needs in
@@ -45,7 +46,8 @@ loop-less : tie.Need-loop-less Inv-loop μ-loop
 loop-less c = search needs
 
 loop-again : tie.Need-loop-again Inv-loop μ-loop
-loop-again c = let l = c .before .before .loop in
+loop-again c =
+    let l = c .before .before .loop in
     let a = c .before .before .before .args in
     let w : length (a .t1) ≡ 8 = search needs in
     let v : length (a .t2) ≡ 8 = search needs in (
@@ -54,7 +56,8 @@ loop-again c = let l = c .before .before .loop in
     )
 
 returns-2 : tie.Need-returns-2 Inv-loop μ-loop
-returns-2 c = let l = c .before .loop in
+returns-2 c =
+    let l = c .before .loop in
     let a = c .before .before .args in
     let w : length (a .t1) ≤ l .i = search needs in
     let v : length (a .t2) ≤ l .i = search needs in

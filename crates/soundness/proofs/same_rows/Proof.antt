@@ -1,7 +1,6 @@
 -- `same_rows` compares one row after the other: each one before g is the same, and one that is not fails the wire. Assumes nothing.
 use mathlib.Core.Path.{_≡_, sym, _∙_}
-use mathlib.Core.Bool.{Bool, true, false, _&&_, and-false}
-use mathlib.Core.List.{List}
+use mathlib.Core.Bool.{true}
 use Prim.Native.Nat.{ℕ, _-_, _≤_, _<_}
 use native.Mathlib.Omega.{arith}
 use borrow.Author.Needs.{needs}
@@ -9,7 +8,6 @@ use borrow.Author.Tests.{eq-eqb, not-true, not-false}
 use borrow.Author.Count.{below-more}
 use lib.ListN.{length, getD}
 use Rattle.listlaws.proofs.Table.{every-fails, every-holds}
-use Rattle.rules.specs.declared.Row.{Row}
 use Rattle.soundness.specs.Wire.{emptyRow, rowLike}
 use Rattle.soundness.proofs.same_rows.Statement.{statement}
 use Rattle.soundness.proofs.same_rows.Tie as tie
@@ -39,7 +37,8 @@ same-minislots-requires : tie.Need-same-minislots-requires Inv-loop μ-loop
 same-minislots-requires c κs = search needs
 
 returns : tie.Need-returns Inv-loop μ-loop
-returns c = let l = c .before .before .before .before .before .before .before .loop in
+returns c =
+    let l = c .before .before .before .before .before .before .before .loop in
     let a = c .before .before .before .before .before .before .before .before .args in
     let v : length (a .t1) ≡ 8 = search needs in
     let e = c .before .same-minislots .ensures in
@@ -52,11 +51,13 @@ loop-less : tie.Need-loop-less Inv-loop μ-loop
 loop-less c = search needs
 
 loop-again : tie.Need-loop-again Inv-loop μ-loop
-loop-again c = let e = c .before .same-minislots .ensures in
+loop-again c =
+    let e = c .before .same-minislots .ensures in
     (omega arith, below-more _ _ (c .before .before .before .before .before .before .before .loop .inv .1) (rw (eq-eqb _ 8 (e .0)) (sym (e .1) ∙ not-false _ (c .if1 .left))))
 
 returns-2 : tie.Need-returns-2 Inv-loop μ-loop
-returns-2 c = let l = c .before .loop in
+returns-2 c =
+    let l = c .before .loop in
     let a = c .before .before .args in
     let v : length (a .t1) ≡ 8 = search needs in
     (v, sym (every-holds (rowLike (a .t2)) emptyRow (a .t1) (λ k h. l .inv .1 k (omega arith))))

@@ -1,5 +1,5 @@
 -- `slots_left` adds one stretch after the other: the sum, and that of what is left of the list, is the list's. Assumes nothing.
-use mathlib.Core.Path.{_≡_, refl, sym, _∙_}
+use mathlib.Core.Path.{_≡_}
 use Prim.Native.Nat.{_+_, _-_, _*_, _≤_}
 use native.Mathlib.Omega.{arith}
 use borrow.Author.Needs.{needs}
@@ -39,14 +39,16 @@ loop-less : tie.Need-loop-less Inv-loop μ-loop
 loop-less c = search needs
 
 loop-again : tie.Need-loop-again Inv-loop μ-loop
-loop-again c = let l = c .before .before .before .loop in
+loop-again c =
+    let l = c .before .before .before .loop in
     let a = c .before .before .before .before .args in
     let w : length (a .t1) ≡ 64 = search needs in
     let e = first-rest (a .t1) (a .count) (omega arith) (l .i) blankSpan (omega arith) in
     (omega arith, omega arith, omega (arith, l .inv .2, sum-next e leftIn))
 
 returns : tie.Need-returns Inv-loop μ-loop
-returns c = let l = c .before .loop in
+returns c =
+    let l = c .before .loop in
     let a = c .before .before .args in
     let w : length (a .t1) ≡ 64 = search needs in
     let q = rw (first-none (a .t1) (a .count) (omega arith) (l .i) (omega arith)) at (l .inv .2) in

@@ -1,6 +1,5 @@
 -- `urgent_sound` compares the number of urgent places with H, then the places with each other. Assumes nothing.
 use mathlib.Core.Path.{_≡_, sym, ap, _∙_}
-use Prim.Native.Nat.{ℕ, _≤_}
 use native.Mathlib.Omega.{arith}
 use borrow.Author.Needs.{needs}
 use borrow.Author.Tests.{eq-eqb, ne-eqb}
@@ -8,7 +7,7 @@ use lib.ListN.{length, take}
 use lib.Seq.{length-take-le}
 use Rattle.rules.specs.Lists.{eachPair}
 use Rattle.rules.specs.declared.Counters.{Counters}
-use Rattle.rules.specs.Soundness.{differ, urgentSound, urgentPlaces, tableCounters}
+use Rattle.rules.specs.Soundness.{differ, urgentSound, urgentPlaces}
 use Rattle.rules.proofs.SoundnessLaws.{first-counters}
 use Rattle.soundness.proofs.Blank.{blank}
 use Rattle.soundness.proofs.urgent_sound.Statement.{statement}
@@ -25,7 +24,8 @@ urgent-places-requires c κs = search needs
 
 returns : tie.Need-returns
 unfolding urgentSound
-returns c = let a = c .before .before .before .before .before .before .args in
+returns c =
+    let a = c .before .before .before .before .before .before .args in
     let r = c .before .before .urgent-places .result in
     let w : length (a .t1) ≡ 64 = search needs in
     let v : length (r .list) ≡ 64 = search needs in
@@ -34,12 +34,14 @@ returns c = let a = c .before .before .before .before .before .before .args in
     rw (n, h, ne-eqb _ _ (c .if1 .taken))
 
 array-share-prefix-list : tie.Need-array-share-prefix-list
-array-share-prefix-list c = let r = c .before .before .urgent-places .result in
+array-share-prefix-list c =
+    let r = c .before .before .urgent-places .result in
     let v : length (r .list) ≡ 64 = search needs in
     omega (arith, c .before .before .urgent-places .ensures .0)
 
 slice-aggregate-distinct : tie.Need-slice-aggregate-distinct
-slice-aggregate-distinct c = let r = c .before .before .before .urgent-places .result in
+slice-aggregate-distinct c =
+    let r = c .before .before .before .urgent-places .result in
     let v : length (r .list) ≡ 64 = search needs in
     sym (length-take-le (r .count) (r .list) (omega (arith, c .before .before .before .urgent-places .ensures .0)))
 
@@ -48,7 +50,8 @@ distinct-requires c κs = search needs
 
 returns-2 : tie.Need-returns-2
 unfolding urgentSound
-returns-2 c = let a = c .before .before .before .before .before .before .before .before .args in
+returns-2 c =
+    let a = c .before .before .before .before .before .before .before .before .args in
     let r = c .before .before .before .before .urgent-places .result in
     let w : length (a .t1) ≡ 64 = search needs in
     let v : length (r .list) ≡ 64 = search needs in

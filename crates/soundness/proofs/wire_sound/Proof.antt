@@ -1,12 +1,10 @@
 -- `wire_sound` compares the wire with the one that the stations asked make. Assumes nothing.
-use mathlib.Core.Path.{_≡_, sym, ap, _∙_}
-use mathlib.Core.Bool.{Bool}
-use mathlib.Core.List.{List}
+use mathlib.Core.Path.{_∙_}
 use Prim.Native.Nat.{ℕ, suc}
 use native.Mathlib.Omega.{arith}
 use borrow.Author.Needs.{needs}
 use borrow.Author.Tests.{eq-eqb}
-use lib.ListN.{length, take}
+use lib.ListN.{take}
 use Rattle.rules.specs.declared.Row.{Row}
 use Rattle.rules.specs.Soundness.{rowSound, wireSound}
 use Rattle.soundness.specs.Wire.{rowLike}
@@ -23,7 +21,8 @@ same-rows-requires c κs = search needs
 
 returns : tie.Need-returns
 unfolding wireSound
-returns c = let a = c .before .before .args in
+returns c =
+    let a = c .before .before .args in
     let l = take (a .count) (a .stations) in
     let e = c .same-rows .ensures in
     let x = c .before .expected-wire in
