@@ -49,3 +49,4 @@ pub mod ChangesHold
 pub mod EdgesHold
 pub mod StationLaws
 pub mod SoundnessLaws
+pub mod ChannelLaws

@@ -1,0 +1,6 @@
+pub mod Steps
+pub mod Loading
+pub mod Planning
+pub mod Sending
+pub mod Deciding
+pub mod Runs
