@@ -23,7 +23,7 @@ use Rattle.channel.specs.declared.Loaded.{Loaded}
 use Rattle.channel.specs.declared.Beginning.{Beginning}
 use Rattle.channel.specs.declared.Offered.{Offered}
 use Rattle.channel.specs.Steps.{zipped}
-use Rattle.channel.specs.Loading.{second, blankOf, withOf, loadOf, storeOf}
+use Rattle.channel.specs.Loading.{second, blankStations, blankOf, withOf, loadOf, storeOf}
 use Rattle.channel.specs.Deciding.{channelOf, tableIn, refusedBeginning, beginningOf, refusedOffered, offeredTo, offeredOf}
 
 -- ---- the table by value, and back
@@ -69,7 +69,7 @@ module _ (ys : List Station) (few : length ys ≤ 64) where
       rw (take-all 64 zs (omega arith), over-first second (λ y x. refl) (replicate 64 noStation) zs (rw length-replicate (omega arith))) (zipped-whole ys zs (sym e))
 
 pub stored-none : (ys : List Station) → storeOf ys (blankOf 0) ≡ ys
-unfolding storeOf blankOf
+unfolding storeOf blankOf blankStations
 stored-none ys = zipped-none second ys
 
 pub loaded-count : (ys : List Station) → loadOf ys .count ≡ length ys

@@ -23,3 +23,5 @@ mod PlannedValue
 mod WireValue
 mod Passed
 pub mod Chain
+mod Cells
+mod StationsValue

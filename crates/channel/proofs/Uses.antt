@@ -29,17 +29,18 @@ use Rattle.channel.specs.declared.Plan.{Plan}
 use Rattle.channel.specs.Planning.{stepOf}
 use Rattle.channel.specs.Deciding.{offeredOf}
 use Rattle.rules.specs.declared.Row.{Row}
-use Rattle.channel.specs.Loading.{absent, turnsOf, blankOf, withOf}
+use Rattle.channel.specs.Loading.{of, absent, turnsOf, blankStations}
 use Rattle.channel.proofs.StationValue as S
 use Rattle.channel.proofs.LoadedValue as B
 use Rattle.channel.proofs.PlanValue as P
 use Rattle.channel.proofs.OfferedValue as O
 use Rattle.channel.proofs.WireValue as Z
+use Rattle.channel.proofs.StationsValue as Y
 use Rattle.channel.proofs.Value.{said}
 use Rattle.channel.proofs.turns as turns′
-use Rattle.channel.proofs.blank as blank′
+use Rattle.channel.proofs.blanks as blanks′
+use Rattle.channel.proofs.hold as hold′
 use Rattle.channel.proofs.get as get′
-use Rattle.channel.proofs.with as with′
 use Rattle.channel.proofs.step as step′
 use Rattle.channel.proofs.place_offer as offer′
 
@@ -60,21 +61,35 @@ module _ {M : Type 1} (𝓤 : URA M) (H : Heap 𝓤) (A : Atoms 𝓤) (mem : Mem
   says-turns W n m v = said 𝓤 H A W usize (turnsOf n m) v (ensured 𝓤 H A turns′.ended (turns′.clauses 𝓤 H A mem run) tt (n, (m, tt)) tt)
       (λ r. exE 𝓤 _ (λ ws. snd∗ 𝓤 (sem 𝓤 H A (lasts turns′.ended tt (n, (m, tt)) ws)) (fact 𝓤 (r ≡ turnsOf n m))))
 
-  -- ---- blank
-  abbrev pub Blank : Contract 𝓤
-  Blank = tripleOf 𝓤 H A blank′.signature (blank′.spec 𝓤 H A mem run)
+  -- ---- blanks
+  abbrev pub Blanks : Contract 𝓤
+  Blanks = tripleOf 𝓤 H A blanks′.signature (blanks′.spec 𝓤 H A mem run)
 
-  abbrev pub to-blank : ℕ → Blank .Ghost
-  to-blank n = ((tt, tt, tt, (n, tt), (vint w64 n ∷ [], tt)), tt)
+  abbrev pub to-blanks : Blanks .Ghost
+  to-blanks = ((tt, tt, tt, tt, tt), tt)
 
-  pub asks-blank : Given 𝓤 H A → (n : ℕ) → n < 2 ^ 64 → ent 𝓤 (emp 𝓤) (Blank .pre (to-blank n))
-  asks-blank W n gn =
-      qed W [] ∵ nothing ! $ owned ! usize (Is usize) (uint-makes 𝓤 H A W w64) n _ (refl, gn) $ fjoin ! $
+  pub asks-blanks : Given 𝓤 H A → ent 𝓤 (emp 𝓤) (Blanks .pre to-blanks)
+  asks-blanks W = qed W [] ∵ nothing ! $ nothing ! $ join ! $ frame ! $ done !
+
+  pub says-blanks : Given 𝓤 H A → (v : Val) → ent 𝓤 (Blanks .post to-blanks v) (H .⇛ (fact 𝓤 (Is Y.R blankStations (v ∷ []))))
+  says-blanks W v = said 𝓤 H A W Y.R blankStations v (ensured 𝓤 H A blanks′.ended (blanks′.clauses 𝓤 H A mem run) tt tt tt)
+      (λ r. exE 𝓤 _ (λ ws. snd∗ 𝓤 (sem 𝓤 H A (lasts blanks′.ended tt tt ws)) (fact 𝓤 (r ≡ blankStations))))
+
+  -- ---- hold
+  abbrev pub Hold : Contract 𝓤
+  Hold = tripleOf 𝓤 H A hold′.signature (hold′.spec 𝓤 H A mem run)
+
+  abbrev pub to-hold : List Station → ℕ → Hold .Ghost
+  to-hold l n = ((tt, tt, tt, (l, (n, tt)), (Y.vals l, (vint w64 n ∷ [], tt))), tt)
+
+  pub asks-hold : Given 𝓤 H A → (l : List Station) (n : ℕ) → Is Y.R l (Y.vals l) → n < 2 ^ 64 → ent 𝓤 (emp 𝓤) (Hold .pre (to-hold l n))
+  asks-hold W l n gl gn =
+      qed W [] ∵ nothing ! $ owned ! usize (Is usize) (uint-makes 𝓤 H A W w64) n _ (refl, gn) $ fjoin ! $ owned ! Y.R (Is Y.R) (Y.makes 𝓤 H A W) l _ gl $ fjoin ! $
       nothing ! $ join ! $ frame ! $ done !
 
-  pub says-blank : Given 𝓤 H A → (n : ℕ) (v : Val) → ent 𝓤 (Blank .post (to-blank n) v) (H .⇛ (fact 𝓤 (Is B.R (blankOf n) (v ∷ []))))
-  says-blank W n v = said 𝓤 H A W B.R (blankOf n) v (ensured 𝓤 H A blank′.ended (blank′.clauses 𝓤 H A mem run) tt (n, tt) tt)
-      (λ r. exE 𝓤 _ (λ ws. snd∗ 𝓤 (sem 𝓤 H A (lasts blank′.ended tt (n, tt) ws)) (fact 𝓤 (r ≡ blankOf n))))
+  pub says-hold : Given 𝓤 H A → (l : List Station) (n : ℕ) (v : Val) → ent 𝓤 (Hold .post (to-hold l n) v) (H .⇛ (fact 𝓤 (Is B.R (of l n) (v ∷ []))))
+  says-hold W l n v = said 𝓤 H A W B.R (of l n) v (ensured 𝓤 H A hold′.ended (hold′.clauses 𝓤 H A mem run) tt (l, (n, tt)) tt)
+      (λ r. exE 𝓤 _ (λ ws. snd∗ 𝓤 (sem 𝓤 H A (lasts hold′.ended tt (l, (n, tt)) ws)) (fact 𝓤 (r ≡ of l n))))
 
   -- ---- get
   abbrev pub Get : Contract 𝓤
@@ -91,22 +106,6 @@ module _ {M : Type 1} (𝓤 : URA M) (H : Heap 𝓤) (A : Atoms 𝓤) (mem : Mem
   pub says-get : Given 𝓤 H A → (d : Loaded) (i : ℕ) (v : Val) → ent 𝓤 (Get .post (to-get d i) v) (H .⇛ (fact 𝓤 (Is S.R (getD (d .stations) i absent) (v ∷ []))))
   says-get W d i v = said 𝓤 H A W S.R (getD (d .stations) i absent) v (ensured 𝓤 H A get′.ended (get′.clauses 𝓤 H A mem run) tt (d, (i, tt)) tt)
       (λ r. exE 𝓤 _ (λ ws. snd∗ 𝓤 (sem 𝓤 H A (lasts get′.ended tt (d, (i, tt)) ws)) (fact 𝓤 (r ≡ getD (d .stations) i absent))))
-
-  -- ---- with
-  abbrev pub With : Contract 𝓤
-  With = tripleOf 𝓤 H A with′.signature (with′.spec 𝓤 H A mem run)
-
-  abbrev pub to-with : Loaded → ℕ → Station → With .Ghost
-  to-with d i s = ((tt, tt, tt, (d, (i, (s, tt))), (B.vals d, (vint w64 i ∷ [], (S.vals s, tt)))), tt)
-
-  pub asks-with : Given 𝓤 H A → (d : Loaded) (i : ℕ) (s : Station) → Is B.R d (B.vals d) → i < 2 ^ 64 → Is S.R s (S.vals s) → i < 64 → ent 𝓤 (emp 𝓤) (With .pre (to-with d i s))
-  asks-with W d i s gd gi gs within =
-      qed W [] ∵ says ! within $ nothing ! $ owned ! S.R (Is S.R) (S.makes 𝓤 H A) s _ gs $ fjoin ! $ owned ! usize (Is usize) (uint-makes 𝓤 H A W w64) i _ (refl, gi) $ fjoin ! $ owned ! B.R (Is B.R) (B.makes 𝓤 H A) d _ gd $ fjoin ! $
-      nothing ! $ done !
-
-  pub says-with : Given 𝓤 H A → (d : Loaded) (i : ℕ) (s : Station) (v : Val) → ent 𝓤 (With .post (to-with d i s) v) (H .⇛ (fact 𝓤 (Is B.R (withOf d i s) (v ∷ []))))
-  says-with W d i s v = said 𝓤 H A W B.R (withOf d i s) v (ensured 𝓤 H A with′.ended (with′.clauses 𝓤 H A mem run) tt (d, (i, (s, tt))) tt)
-      (λ r. exE 𝓤 _ (λ ws. snd∗ 𝓤 (sem 𝓤 H A (lasts with′.ended tt (d, (i, (s, tt))) ws)) (fact 𝓤 (r ≡ withOf d i s))))
 
   -- ---- step
   abbrev pub Step : Contract 𝓤

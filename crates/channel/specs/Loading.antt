@@ -8,7 +8,7 @@ use mathlib.Core.Path.{_≡_, refl, sym, _∙_, ap, subst}
 use mathlib.Core.Logic.{_⊎_, inl, inr, by-cases}
 use native.Mathlib.Decide.{decLt}
 use lib.ListN.{length, getD, replicate, set, take, length-replicate}
-use Rattle.channel.specs.Steps.{zipped, upTo, upTo-take, set-upTo, length-zipped}
+use Rattle.channel.specs.Steps.{zipped, upTo, upTo-take, set-upTo, length-upTo, length-zipped}
 use Rattle.channel.specs.declared.Loaded.{Loaded}
 use Rattle.rules.specs.declared.Station.{Station}
 use Rattle.rules.specs.declared.Condition.the-variants.{Free}
@@ -26,8 +26,11 @@ absent = record {
 unfoldable pub turnsOf : ℕ → ℕ → ℕ
 turnsOf n m = min (min n m) 64
 
+unfoldable pub blankStations : List Station
+blankStations = replicate 64 noStation
+
 unfoldable pub blankOf : ℕ → Loaded
-blankOf n = record { stations = replicate 64 noStation; count = n }
+blankOf n = record { stations = blankStations; count = n }
 
 unfoldable pub withOf : Loaded → ℕ → Station → Loaded
 withOf d i s = record { stations = set (d .stations) i s; count = d .count }
@@ -70,15 +73,27 @@ of l n = record { stations = l; count = n }
 unfoldable pub loaded : ℕ → List Station → ℕ → Loaded
 loaded n ys i = of (upTo second i (replicate 64 noStation) ys) n
 
-pub loaded-none : (n : ℕ) (ys : List Station) → blankOf n ≡ loaded n ys 0
-unfolding blankOf loaded
+pub loaded-none : (n : ℕ) (ys : List Station) → of blankStations n ≡ loaded n ys 0
+unfolding blankStations loaded
 loaded-none n ys = refl
+
+pub loaded-count : (n : ℕ) (ys : List Station) (i : ℕ) → of (loaded n ys i .stations) n ≡ loaded n ys i
+unfolding loaded
+loaded-count n ys i = refl
+
+pub length-loaded : (n : ℕ) (ys : List Station) (i : ℕ) → length (loaded n ys i .stations) ≡ 64
+unfolding loaded
+length-loaded n ys i = length-upTo second i (replicate 64 noStation) ys ∙ length-replicate 64 noStation
 
 pub loaded-more : (n : ℕ) (ys : List Station) (i : ℕ) → i < 64 → i < length ys → withOf (loaded n ys i) i (getD ys i absent) ≡ loaded n ys (i + 1)
 unfolding withOf loaded
 loaded-more n ys i l m =
     ap (λ (t : List Station). of t n) (set-upTo second i (replicate 64 noStation) ys absent absent (subst (λ (k : ℕ). i < k) (sym (length-replicate 64 noStation)) l) m)
     ∙ ap (loaded n ys) (sym (add-one i))
+
+pub loaded-set : (n : ℕ) (ys : List Station) (i : ℕ) → i < 64 → i < length ys → set (loaded n ys i .stations) i (getD ys i absent) ≡ loaded n ys (i + 1) .stations
+unfolding withOf
+loaded-set n ys i l m = ap (λ (d : Loaded). d .stations) (loaded-more n ys i l m)
 
 pub loaded-all : (ys : List Station) → loaded (length ys) ys (turnsOf (length ys) 64) ≡ loadOf ys
 unfolding loadOf loaded

@@ -46,7 +46,7 @@ ghost use Rattle.rules.specs.Queueing.{passes};
 ghost use Rattle.rules.specs.Soundness.{soundTable};
 ghost use Rattle.rules.specs.ChannelCalls.{blankWire, offerAnswer, channelStartOf, channelOfferOf, channelSlotOf};
 ghost use Rattle.rules.proofs.StationLaws.{HasLeft};
-ghost use Rattle.channel.specs.Loading.{of, absent, turnsOf, blankOf, withOf, loadOf, storeOf};
+ghost use Rattle.channel.specs.Loading.{of, absent, turnsOf, blankStations, blankOf, loadOf, storeOf};
 ghost use Rattle.channel.specs.Planning.{at, settledIn, stepOf, steppedOf};
 ghost use Rattle.channel.specs.Sending.{sentOf};
 ghost use Rattle.channel.specs.Deciding.{channelOf, tableIn, refusedBeginning, beginningOf, refusedOffered, offeredOf, noPlan, refusedPlan, plannedFrom, calledOf, heardPlan, plannedOf};
@@ -70,17 +70,32 @@ fn turns(n: usize, m: usize) -> usize
     least_of(least_of(n, m), 64)
 }
 
-// A table of n stations, none of them read yet.
-fn blank(n: usize) -> Loaded
-    ensures { λ r. ⌜ r ≡ blankOf n ⌝ }
+// Records that stand for no station.
+fn blanks() -> [Station; 64]
+    ensures { λ r. ⌜ r ≡ blankStations ⌝ }
 {
     let s = Station {
         counters: counters::none(),
         index: 0,
         condition: Condition::Free,
     };
-    let stations = [s; 64];
-    Loaded { stations, count: n }
+    [s; 64]
+}
+
+fn hold(stations: [Station; 64], count: usize) -> Loaded
+    ensures { λ r. ⌜ r ≡ of stations count ⌝ }
+{
+    Loaded { stations, count }
+}
+
+// A table of n stations, none of them read yet.
+fn blank(n: usize) -> Loaded
+    ensures { λ r. ⌜ r ≡ blankOf n ⌝ }
+{
+    Loaded {
+        stations: blanks(),
+        count: n,
+    }
 }
 
 // Station i of a table.
@@ -91,33 +106,23 @@ fn get(d: Loaded, i: usize) -> Station
     d.stations[i]
 }
 
-// The table with s as its station i.
-fn with(d: Loaded, i: usize, s: Station) -> Loaded
-    requires { ⌜ i < 64 ⌝ }
-    ensures { λ r. ⌜ r ≡ withOf d i s ⌝ }
-{
-    let mut r = d;
-    r.stations[i] = s;
-    r
-}
-
 // The lent table by value.
-pub fn load(table: &[Station]) -> Loaded
+fn load(table: &[Station]) -> Loaded
     ensures { λ r. ⌜ r ≡ loadOf (now (table .entry)) ⌝ }
 {
     let n = table.len();
     let end = turns(n, 64);
-    let mut d = blank(n);
+    let mut stations = blanks();
     let mut i = 0;
     while i < end {
-        d = with(d, i, table[i]);
+        stations[i] = table[i];
         i += 1;
     }
-    d
+    hold(stations, n)
 }
 
 // The records of a table by value are written over the lent ones, as far as both go.
-pub fn store(table: &mut [Station], d: Loaded)
+fn store(table: &mut [Station], d: Loaded)
     ensures { λ _. ⌜ now (table .exit) ≡ storeOf (now (table .entry)) d ⌝ }
 {
     let n = turns(table.len(), d.count);
@@ -166,7 +171,7 @@ fn step(s: Station, p: Plan, i: usize) -> Station
 }
 
 // Each station takes its step, in place.
-pub fn step_all(table: &mut [Station], p: Plan)
+fn step_all(table: &mut [Station], p: Plan)
     ensures { λ _. ⌜ now (table .exit) ≡ steppedOf (now (table .entry)) p ⌝ }
 {
     let n = turns(table.len(), p.turns);

@@ -3,7 +3,7 @@ use Rattle.rules.specs.declared.Condition.the-variants.{Free}
 use Rattle.rules.specs.declared.Counters.{Counters}
 use Rattle.channel.proofs.Parts.{new-at, loaded-whole}
 use Rattle.channel.specs.declared.Loaded.{Loaded}
-use Rattle.channel.specs.Loading.{absent, blankOf, loaded, loaded-none, loaded-more, withOf}
+use Rattle.channel.specs.Loading.{absent, blankStations, loaded, loaded-none, loaded-more, withOf}
 use Rattle.rules.specs.ChannelCalls.{newStations}
 use Rattle.rules.specs.StationCalls.{startStation}
 use Rattle.rules.specs.declared.Station.{Station}
@@ -26,7 +26,7 @@ none-requires : tie.Need-none-requires Inv-loop μ-loop
 none-requires c κs = search needs
 
 loop-holds : tie.Need-loop-holds Inv-loop μ-loop
-unfolding blankOf
+unfolding blankStations
 loop-holds c = (omega arith, rw (c .none .ensures) (loaded-none (length (c .before .before .args .indexes .now)) (newStations (c .before .before .args .m) (c .before .before .args .n) (c .before .before .args .indexes .now))))
 
 start-requires : tie.Need-start-requires Inv-loop μ-loop
