@@ -1,4 +1,2 @@
-pub mod Blank
-pub mod Parts
-pub mod Laws
+pub mod Agreeing
 pub mod WireLaws

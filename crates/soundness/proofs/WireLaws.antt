@@ -26,7 +26,7 @@ use Rattle.rules.proofs.SoundnessLaws.{gather-append}
 use Rattle.rules.proofs.SlotStep.{and-both}
 use Rattle.soundness.specs.declared.Asking.{Asking}
 use Rattle.soundness.specs.Wire.{askingOf, emptyRow, slotAt, joinedAt, withRequest, Carries, rowLike}
-use Rattle.soundness.proofs.Laws.{and-same, every-same}
+use Rattle.soundness.proofs.Agreeing.{and-same, every-same}
 
 joined-none : (a : Minislot) → joined a silent ≡ a
 joined-none a = joined-comm a silent ∙ joined-silent a

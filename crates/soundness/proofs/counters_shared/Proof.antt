@@ -12,7 +12,7 @@ use Rattle.rules.specs.declared.Station.{Station}
 use Rattle.rules.specs.Lists.{each}
 use Rattle.rules.specs.Soundness.{sameCounters, tableCounters, countersShared}
 use Rattle.rules.proofs.SoundnessLaws.{first-rest, first-none, each-next, each-stop, first-counters}
-use Rattle.soundness.proofs.Blank.{blank}
+use Rattle.columns.proofs.Blank.{blank}
 use Rattle.soundness.proofs.counters_shared.Statement.{statement}
 use Rattle.soundness.proofs.counters_shared.Tie as tie
 

@@ -10,7 +10,7 @@ use Rattle.pattern.specs.Patterns.{patterns, wordOf}
 use Rattle.rules.specs.declared.Row.{Row}
 use Rattle.soundness.specs.declared.Asking.{Asking}
 use Rattle.soundness.specs.Wire.{askingOf, withRequest, Carries}
-use Rattle.soundness.proofs.Blank.{blank}
+use Rattle.columns.proofs.Blank.{blank}
 use Rattle.soundness.proofs.WireLaws.{carries-none, carries-more}
 use Rattle.soundness.proofs.expected_wire.Statement.{statement}
 use Rattle.soundness.proofs.expected_wire.Tie as tie

@@ -7,7 +7,7 @@ use lib.Seq.{length-take-le}
 use Rattle.rules.specs.Lists.{eachPair}
 use Rattle.rules.specs.Soundness.{differ, indexesDistinct}
 use Rattle.rules.proofs.SoundnessLaws.{pairs-map}
-use Rattle.soundness.specs.Columns.{indexIn}
+use Rattle.columns.specs.Columns.{indexIn}
 use Rattle.soundness.proofs.indexes_distinct.Statement.{statement}
 use Rattle.soundness.proofs.indexes_distinct.Tie as tie
 

@@ -8,9 +8,9 @@ use Rattle.rules.specs.Lists.{eachPair, sumOf}
 use Rattle.rules.specs.declared.Counters.{Counters}
 use Rattle.rules.specs.Soundness.{longSound}
 use Rattle.rules.proofs.SoundnessLaws.{first-counters}
-use Rattle.soundness.specs.Columns.{leftIn, apartSpans}
-use Rattle.soundness.proofs.Blank.{blank}
-use Rattle.soundness.proofs.Laws.{long-sum, long-pairs}
+use Rattle.columns.specs.Columns.{leftIn, apartSpans}
+use Rattle.columns.proofs.Blank.{blank}
+use Rattle.columns.proofs.Laws.{long-sum, long-pairs}
 use Rattle.soundness.proofs.long_sound.Statement.{statement}
 use Rattle.soundness.proofs.long_sound.Tie as tie
 

@@ -7,7 +7,7 @@ use borrow.Author.Tests.{not-true, not-false}
 use lib.ListN.{length, take, drop}
 use Rattle.rules.specs.Lists.{each}
 use Rattle.rules.specs.StationLimits.{stationWithin}
-use Rattle.soundness.proofs.Blank.{blank}
+use Rattle.columns.proofs.Blank.{blank}
 use Rattle.rules.specs.Soundness.{recordsWithin}
 use Rattle.rules.proofs.SoundnessLaws.{first-rest, first-none, each-next, each-stop}
 use Rattle.soundness.proofs.records_within.Statement.{statement}

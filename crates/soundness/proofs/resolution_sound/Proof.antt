@@ -12,10 +12,11 @@ use Rattle.rules.specs.declared.Station.{Station}
 use Rattle.rules.specs.Lists.{gatherOf}
 use Rattle.rules.specs.Soundness.{resolutionSound, resolutionSoundAt}
 use Rattle.rules.proofs.SoundnessLaws.{first-counters}
-use Rattle.soundness.specs.declared.Spot.{Spot}
-use Rattle.soundness.specs.Columns.{placeIn, spotsOf, queueSound}
-use Rattle.soundness.proofs.Blank.{blank}
-use Rattle.soundness.proofs.Laws.{spots-places, every-same}
+use Rattle.columns.specs.declared.Spot.{Spot}
+use Rattle.columns.specs.Columns.{placeIn, spotsOf, queueSound}
+use Rattle.columns.proofs.Blank.{blank}
+use Rattle.columns.proofs.Laws.{spots-places}
+use Rattle.soundness.proofs.Agreeing.{every-same}
 use Rattle.soundness.proofs.resolution_sound.Statement.{statement}
 use Rattle.soundness.proofs.resolution_sound.Tie as tie
 

@@ -9,7 +9,7 @@ use Rattle.rules.specs.Lists.{eachPair}
 use Rattle.rules.specs.declared.Counters.{Counters}
 use Rattle.rules.specs.Soundness.{differ, urgentSound, urgentPlaces}
 use Rattle.rules.proofs.SoundnessLaws.{first-counters}
-use Rattle.soundness.proofs.Blank.{blank}
+use Rattle.columns.proofs.Blank.{blank}
 use Rattle.soundness.proofs.urgent_sound.Statement.{statement}
 use Rattle.soundness.proofs.urgent_sound.Tie as tie
 

@@ -8,7 +8,7 @@ use lib.ListN.{take}
 use Rattle.rules.specs.declared.Row.{Row}
 use Rattle.rules.specs.Soundness.{rowSound, wireSound}
 use Rattle.soundness.specs.Wire.{rowLike}
-use Rattle.soundness.proofs.Laws.{every-same}
+use Rattle.soundness.proofs.Agreeing.{every-same}
 use Rattle.soundness.proofs.WireLaws.{row-same}
 use Rattle.soundness.proofs.wire_sound.Statement.{statement}
 use Rattle.soundness.proofs.wire_sound.Tie as tie

@@ -1,0 +1,3 @@
+pub mod Blank
+mod Parts
+pub mod Laws
