@@ -7,7 +7,7 @@ use native.Mathlib.Numerals.{add-one}
 use native.Mathlib.Omega.{arith}
 use lib.ListN.{length, getD, set, take, drop, length-take, length-drop}
 use lib.Seq.{sets, sets-eq, length-take-le, take-suc, getD-drop, getD-set-other}
-use Rattle.recording.proofs.Stores.{sets-append}
+use Rattle.lines.proofs.Stores.{sets-append}
 use Rattle.batch.specs.Keeping.{restOf, keptOf}
 
 -- stores that end before a place leave it alone

@@ -51,7 +51,7 @@ module _ (f : Follower) (bytes more : List ℕ) (start : ℕ) (ended : Bool) whe
           → advanceBy f (bytes ++ more) start (cutOf (bytes ++ more) start ended) ≡ advanceBy f bytes start c
       go (cut.Record end next) e h =
           let i = inside bytes start false end next e in
-          rw (settled ended more (cut.Record end next) (not-record end next) bytes start e, same-part end (i .0) (i .1))
+          rw (settled ended more (cut.Record end next) (not-record end next) bytes start e, same-part end (i .0) (omega (arith, i .1, i .2)))
       go cut.More e h = absurd (h refl)
       go cut.Done e h = rw (settled ended more cut.Done not-done bytes start e)
       go cut.Broken e h = rw (settled ended more cut.Broken not-broken bytes start e)

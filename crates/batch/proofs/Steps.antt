@@ -7,7 +7,7 @@ use Prim.Native.Nat.{ℕ, zero, suc, _+_, _-_, _<_, _≤_}
 use native.Mathlib.Numerals.{add-one}
 use native.Mathlib.Omega.{arith}
 use lib.ListN.{length}
-use Rattle.recording.specs.Lines.{putAt}
+use Rattle.lines.specs.Lines.{putAt}
 use Rattle.follower.specs.declared.Follower.{Follower}
 use Rattle.follower.specs.declared.Next.{Next}
 use Rattle.follower.specs.declared.Progress.the-variants.{Went}

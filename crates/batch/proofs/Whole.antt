@@ -8,8 +8,8 @@ use native.Mathlib.Omega.{arith}
 use borrow.Author.Tests.{le-leb}
 use lib.ListN.{length, length-append}
 use lib.Seq.{sets, length-sets}
-use Rattle.recording.specs.Lines.{headerOf, putAt, placeAfter}
-use Rattle.recording.proofs.Stores.{put-fits, sets-append}
+use Rattle.lines.specs.Lines.{headerOf, putAt, placeAfter}
+use Rattle.lines.proofs.Stores.{put-fits, sets-append}
 use Rattle.follower.specs.declared.Advance.{Advance}
 use Rattle.follower.specs.declared.Next.{Next}
 use Rattle.follower.specs.declared.Progress.{Progress}

@@ -4,7 +4,7 @@ use mathlib.Core.List.{List}
 use Prim.Native.Nat.{ℕ, zero, suc, _+_}
 use lib.Dec.{leb}
 use lib.ListN.{length}
-use Rattle.recording.specs.Lines.{putAt}
+use Rattle.lines.specs.Lines.{putAt}
 use Rattle.follower.specs.declared.Follower.{Follower}
 use Rattle.follower.specs.declared.Next.{Next}
 use Rattle.follower.specs.declared.Progress.the-variants.{Went}

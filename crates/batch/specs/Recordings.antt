@@ -4,7 +4,7 @@ use mathlib.Core.Path.{_≡_}
 use mathlib.Core.List.{List}
 use Prim.Native.Nat.{ℕ}
 use lib.ListN.{length}
-use Rattle.recording.specs.Lines.{headerOf, putAt}
+use Rattle.lines.specs.Lines.{headerOf, putAt}
 use Rattle.follower.specs.declared.Progress.{Progress}
 use Rattle.follower.specs.declared.Progress.the-variants.{Went, More, Done, Refused}
 use Rattle.follower.specs.Following.{atBegin}

@@ -8,7 +8,7 @@ use follower::Progress;
 use follower::begin;
 use libc::STDIN_FILENO;
 use libc::STDOUT_FILENO;
-use recording::lines::put_header;
+use lines::put_header;
 
 // Where the run stands.
 struct Stream {

@@ -4,7 +4,7 @@ use batch::count_first;
 use batch::follow_held;
 use follower::begin;
 use libc::STDOUT_FILENO;
-use recording::lines::put_header;
+use lines::put_header;
 
 // Writes the bytes before place at.
 fn print(out: &[u8], at: usize) {

@@ -15,18 +15,17 @@ use Rattle.recording.proofs.Cuts.{begins-none}
 use Rattle.recording.proofs.Streams.{extent}
 
 pub inside : (bytes : List ℕ) (start : ℕ) (ended : Bool) (end next : ℕ) → cutOf bytes start ended ≡ Record end next
-    → (start ≤ end) × (end ≤ length bytes)
+    → (start ≤ end) × (end ≤ next) × (next ≤ length bytes)
 inside bytes start ended end next e = go (ltb start (length bytes)) refl
   where
     none : (t : Bool) → cond t Done More ≡ Record end next → ⊥
     none true z = let z₁ : _≡_ {A = ℕ} 0 1 = cc in omega arith
     none false z = let z₁ : _≡_ {A = ℕ} 0 1 = cc in omega arith
 
-    go : (t : Bool) → ltb start (length bytes) ≡ t → (start ≤ end) × (end ≤ length bytes)
+    go : (t : Bool) → ltb start (length bytes) ≡ t → (start ≤ end) × (end ≤ next) × (next ≤ length bytes)
     go true h =
         let x = extent bytes start ended end next e in
         let k : start < length bytes = ltb-true start (length bytes) h in
-        let o : end ≤ next = x .order in
         let i : next ≤ start + (length bytes - start) = x .inside in
-        (x .from, omega arith)
+        (x .from, x .order, omega arith)
     go false h = absurd (none ended (sym (begins-none ended start bytes (ltb-false start (length bytes) h)) ∙ e))

@@ -7,8 +7,8 @@ use Prim.Native.Nat.{ℕ, _+_}
 use native.Mathlib.Omega.{arith}
 use lib.Dec.{leb}
 use lib.ListN.{length}
-use Rattle.recording.specs.Lines.{putAt, placeAfter}
-use Rattle.recording.proofs.Stores.{put-fits, put-none}
+use Rattle.lines.specs.Lines.{putAt, placeAfter}
+use Rattle.lines.proofs.Stores.{put-fits, put-none}
 
 pub put-nothing : (buffer : List ℕ) (at : ℕ) → (buffer ≡ putAt buffer at []) × (at ≡ placeAfter buffer at [])
 put-nothing buffer at = go (leb (at + length {A = ℕ} []) (length buffer)) refl

@@ -5,7 +5,7 @@ use Prim.Native.Nat.{ℕ, zero, suc, _-_}
 use lib.Dec.{ltb}
 use lib.ListN.{length, take, drop}
 use Rattle.recording.specs.Cutting.{cutOf}
-use Rattle.recording.specs.Lines.{headerOf, placeAfter}
+use Rattle.lines.specs.Lines.{headerOf, placeAfter}
 use Rattle.recording.specs.declared.records.Cut.{Cut}
 use Rattle.recording.specs.declared.records.Cut.the-variants as cut
 use Rattle.follower.specs.declared.Follower.{Follower}

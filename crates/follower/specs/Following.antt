@@ -8,7 +8,7 @@ use lib.ListN.{length, getD}
 use Rattle.recording.specs.Fields.{wellFormed, fieldsOf}
 use Rattle.recording.specs.First.{firstOf}
 use Rattle.recording.specs.Row.{wordsOf, countsOf, withinRange}
-use Rattle.recording.specs.Lines.{lineOf, refusalOf, placeAfter}
+use Rattle.lines.specs.Lines.{lineOf, refusalOf, placeAfter}
 use Rattle.recording.specs.declared.fields.First.{First}
 use Rattle.recording.specs.declared.fields.First.the-variants as first
 use Rattle.rules.specs.declared.Counters.{Counters}

@@ -1,11 +1,11 @@
 // What `follow` does with one record of its input: the listener's record goes on and a line is written, or the output ends with a refusal.
+use lines::put_line;
+use lines::put_refusal;
 use listener::listen;
 use listener::start;
 use recording::fields::First;
 use recording::fields::first_fields;
 use recording::fields::row_fields;
-use recording::lines::put_line;
-use recording::lines::put_refusal;
 use recording::records::Cut;
 use recording::records::cut_record;
 use rules::Counters;
@@ -16,7 +16,7 @@ use rules::Turn;
 ghost use mathlib.Core.Path.{_≡_};
 ghost use Prim.Native.Nat.{_-_, _<_};
 ghost use lib.ListN.{getD};
-ghost use Rattle.recording.specs.Lines.{putAt, placeAfter};
+ghost use Rattle.lines.specs.Lines.{putAt, placeAfter};
 ghost use Rattle.rules.specs.Starting.{startOf};
 ghost use Rattle.follower.specs.Following.{letterOf, placeFollowing, atBegin, bytesOf, refusedStep, startedStep, listenedStep, rowStep, followRecord, endsOutput, followed};
 ghost use Rattle.follower.specs.Advancing.{progressOf, stepAdvance, doneAdvance, advanceOf, reached};

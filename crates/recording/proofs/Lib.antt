@@ -1,13 +1,10 @@
 pub mod Places
 pub mod Cuts
+pub mod Answers
 pub mod Parts
 pub mod Pairs
 pub mod Firsts
 pub mod Rows
-pub mod Decimals
-pub mod Stores
-pub mod LineLaws
 pub mod Streams
 pub mod RowLaws
-pub mod Written
 pub mod Samples

@@ -105,7 +105,7 @@ row-broken at k ws cs (p ∷ q ∷ ps) n e = go (isWord p) (isCount q) refl refl
     go true false f g h = rw (f, g)
     go false u f g h = rw f
 
-pub row-odd : (at k w : ℕ) (ws cs : List ℕ) (ps : List (List ℕ)) → pairOf at ps ≡ Odd w → goRow k ws cs ps ≡ rowWith (k * 2 + 1) (set ws k w) cs
+row-odd : (at k w : ℕ) (ws cs : List ℕ) (ps : List (List ℕ)) → pairOf at ps ≡ Odd w → goRow k ws cs ps ≡ rowWith (k * 2 + 1) (set ws k w) cs
 unfolding goRow pairOf afterWord
 row-odd at k w ws cs [] e = let z : _≡_ {A = ℕ} 0 1 = cc in absurd (omega arith)
 row-odd at k w ws cs (p ∷ []) e = go (isWord p) refl e
@@ -120,6 +120,10 @@ row-odd at k w ws cs (p ∷ q ∷ ps) e = go (isWord p) (isCount q) e
     go true true h = let z : _≡_ {A = ℕ} 0 1 = cc in absurd (omega arith)
     go true false h = let z : _≡_ {A = ℕ} 0 1 = cc in absurd (omega arith)
     go false u h = let z : _≡_ {A = ℕ} 0 1 = cc in absurd (omega arith)
+
+-- the same, of the row that is answered: its number of fields, and its words
+pub odd-answered : (at k w n : ℕ) (us ws cs : List ℕ) (ps : List (List ℕ)) → pairOf at ps ≡ Odd w → n ≡ k * 2 + 1 → us ≡ set ws k w → rowWith n us cs ≡ goRow k ws cs ps
+odd-answered at k w n us ws cs ps e f g = rw (row-odd at k w ws cs ps e, f, g)
 
 -- a pair was read: the first two parts are one
 pub record Paired (at : ℕ) (ps : List (List ℕ)) (w c n : ℕ) (last : Bool) : Type 0 where

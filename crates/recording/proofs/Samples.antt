@@ -1,27 +1,15 @@
--- The definitions on samples, by computation: lines of the paper's example, its first records, and edges of the form.
+-- The definitions on samples, by computation: first records and rows of the paper's example, and edges of the form.
 -- Assumes nothing.
 use mathlib.Core.Bool.{true, false}
 use mathlib.Core.Path.{_≡_, refl}
 use mathlib.Core.List.{List, [], _∷_}
-use Prim.Native.Nat.{ℕ}
 use lib.ListN.{replicate}
 use Rattle.recording.specs.Cutting.{afterReturn, goesOn, begins, cutOf}
 use Rattle.recording.specs.Fields.{onto, parts, every, isDigit, isField, numeral, wellFormed, fieldsOf}
 use Rattle.recording.specs.First.{twoOf, firstOf}
 use Rattle.recording.specs.Row.{wordsOf, countsOf, withinRange, firstOnes, brokenRow, rowFrom, rowOf}
-use Rattle.recording.specs.Decimal.{digitsWithin, digitsOf}
-use Rattle.recording.specs.Lines.{recordOf, lineOf, refusalOf}
 use Rattle.recording.specs.declared.records.Cut.the-variants.{Record, More, Done, Broken}
 use Rattle.recording.specs.declared.fields.First.the-variants as first
-
--- `2,1,u,0,3,0` CR LF, the paper's second row, and `refused,19,10` CR LF
-second-line : lineOf 2 1 117 0 3 0 ≡ 50 ∷ 44 ∷ 49 ∷ 44 ∷ 117 ∷ 44 ∷ 48 ∷ 44 ∷ 51 ∷ 44 ∷ 48 ∷ 13 ∷ 10 ∷ []
-unfolding lineOf recordOf digitsOf digitsWithin
-second-line = refl
-
-refused-line : refusalOf 19 10 ≡ 114 ∷ 101 ∷ 102 ∷ 117 ∷ 115 ∷ 101 ∷ 100 ∷ 44 ∷ 49 ∷ 57 ∷ 44 ∷ 49 ∷ 48 ∷ 13 ∷ 10 ∷ []
-unfolding refusalOf recordOf digitsOf digitsWithin
-refused-line = refl
 
 -- `2,1` as the first record; `2`, and `2,1,0`, are not
 two-one : firstOf (50 ∷ 44 ∷ 49 ∷ []) ≡ first.Numbers 2 1

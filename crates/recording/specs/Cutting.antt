@@ -1,10 +1,10 @@
 -- Where a record of the input ends (paper: "comma-separated records (RFC 4180, no quotes, CR LF, last one optional)",
 -- "records have at most 128 bytes before CR LF"). Bytes are numbers: CR is 13, LF is 10.
-use mathlib.Core.Bool.{Bool, true, false, cond}
+use mathlib.Core.Bool.{Bool, true, false, cond, not, _||_}
 use mathlib.Core.List.{List, [], _∷_}
 use Prim.Native.Nat.{ℕ, zero, suc, _+_}
-use lib.Dec.{eqb}
-use lib.ListN.{drop}
+use lib.Dec.{eqb, ltb}
+use lib.ListN.{length, drop}
 use Rattle.recording.specs.declared.records.Cut.{Cut}
 use Rattle.recording.specs.declared.records.Cut.the-variants.{Record, More, Done, Broken}
 
@@ -31,3 +31,28 @@ begins ended at (b ∷ rest) = goesOn ended at 128 (b ∷ rest)
 -- The record that begins at place `start` of `bytes`; `ended`: no byte comes after them.
 unfoldable pub cutOf : List ℕ → ℕ → Bool → Cut
 cutOf bytes start ended = begins ended start (drop start bytes)
+
+-- The paper's number of each answer (0 where there is none), and the places that it carries: where the record ends, and where the next begins.
+abbrev pub cutAnswer : Cut → ℕ × List ℕ
+cutAnswer (Record end next) = (0, end ∷ next ∷ [])
+cutAnswer More = (0, [])
+cutAnswer Done = (0, [])
+cutAnswer Broken = (19, [])
+
+-- The bytes before the first CR or LF.
+unfoldable pub beforeEnd : List ℕ → List ℕ
+beforeEnd [] = []
+beforeEnd (b ∷ rest) = cond (eqb b 13) [] (cond (eqb b 10) [] (b ∷ beforeEnd rest))
+
+-- What stands after those bytes breaks the record: an LF with no CR before it, or a CR with no LF after it.
+unfoldable pub badEnd : Bool → List ℕ → Bool
+badEnd ended [] = false
+badEnd ended (b ∷ []) = cond (eqb b 13) ended true
+badEnd ended (b ∷ c ∷ rest) = cond (eqb b 13) (not (eqb c 10)) true
+
+-- The number of the record that begins at place `start`: 19 where it has more than 128 bytes or ends badly.
+unfoldable pub cutNumberOf : List ℕ → ℕ → Bool → ℕ
+cutNumberOf bytes start ended =
+    let rest = drop start bytes in
+    let size = length (beforeEnd rest) in
+    cond (ltb 128 size || badEnd ended (drop size rest)) 19 0

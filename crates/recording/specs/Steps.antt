@@ -1,12 +1,10 @@
--- The private steps on the way to `firstOf`, `rowOf` and `lineOf`: what the readers of one field and of one pair of fields answer, of the parts from a place on,
--- and what the writers of a line's two halves write.
+-- The private steps on the way to `firstOf` and `rowOf`: what the readers of one field and of one pair of fields answer, of the parts from a place on.
 use mathlib.Core.Bool.{Bool, true, false, cond, _&&_}
-use mathlib.Core.List.{List, [], _∷_, _++_}
+use mathlib.Core.List.{List, [], _∷_}
 use Prim.Native.Nat.{ℕ, _+_}
 use lib.Dec.{leb}
 use lib.ListN.{length}
 use Rattle.recording.specs.Fields.{isField, numeral}
-use Rattle.recording.specs.Decimal.{digitsOf}
 use Rattle.recording.specs.declared.fields.Field.{Field}
 use Rattle.recording.specs.declared.fields.Field.the-variants as field
 use Rattle.recording.specs.declared.fields.Pair.{Pair}
@@ -39,15 +37,3 @@ afterWord at p (q ∷ ps) =
 unfoldable pub pairOf : ℕ → List (List ℕ) → Pair
 pairOf at [] = pair.Broken
 pairOf at (p ∷ ps) = cond (isWord p) (afterWord at p ps) pair.Broken
-
--- a number and one byte after it
-abbrev pub fieldBytes : ℕ → ℕ → List ℕ
-fieldBytes value after = digitsOf value ++ (after ∷ [])
-
--- `slot,group,turn,`
-unfoldable pub slotBytes : ℕ → ℕ → ℕ → List ℕ
-slotBytes slot group turn = fieldBytes slot 44 ++ fieldBytes group 44 ++ (turn ∷ []) ++ (44 ∷ [])
-
--- `H,N,RQ` CR LF
-unfoldable pub counterBytes : ℕ → ℕ → ℕ → List ℕ
-counterBytes urgent long resolution = fieldBytes urgent 44 ++ fieldBytes long 44 ++ fieldBytes resolution 13 ++ (10 ∷ [])

@@ -3,7 +3,7 @@ ghost use mathlib.Core.Path.{_≡_};
 ghost use lib.ListN.{drop, set};
 ghost use Rattle.recording.specs.Fields.{parts};
 ghost use Rattle.recording.specs.Steps.{fieldOf, pairOf};
-ghost use Rattle.recording.specs.First.{firstOf};
+ghost use Rattle.recording.specs.First.{firstOf, firstAnswer, firstAnswerOf};
 ghost use Rattle.recording.specs.Row.{rowOf, rowWith, brokenRow};
 
 // One field: its number, the place after the comma that ends it, and whether the record's end ends it instead.
@@ -98,7 +98,7 @@ fn pair_at(bytes: &[u8], start: usize) -> Pair
 
 // The two numbers of the first record.
 pub fn first_fields(bytes: &[u8]) -> First
-    ensures { λ r. ⌜ r ≡ firstOf (now (bytes .entry)) ⌝ }
+    ensures { λ r. ⌜ (r ≡ firstOf (now (bytes .entry))) × (firstAnswer r ≡ firstAnswerOf (now (bytes .entry))) ⌝ }
 {
     if LONGEST < bytes.len() {
         return First::Broken;

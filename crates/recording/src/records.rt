@@ -2,7 +2,7 @@
 ghost use mathlib.Core.Path.{_≡_};
 ghost use Prim.Native.Nat.{_+_, _<_};
 ghost use lib.ListN.{length, drop};
-ghost use Rattle.recording.specs.Cutting.{cutOf, afterReturn};
+ghost use Rattle.recording.specs.Cutting.{cutOf, cutAnswer, cutNumberOf, afterReturn};
 
 // Where the record ends that begins at a given place.
 pub enum Cut {
@@ -46,7 +46,7 @@ fn after_return(bytes: &[u8], at: usize, ended: bool) -> Cut
 
 // Where the record ends that begins at place start; ended: no byte comes after these. It looks at 130 bytes at most.
 pub fn cut_record(bytes: &[u8], start: usize, ended: bool) -> Cut
-    ensures { λ r. ⌜ r ≡ cutOf (now (bytes .entry)) start ended ⌝ }
+    ensures { λ r. ⌜ (r ≡ cutOf (now (bytes .entry)) start ended) × (cutAnswer r .0 ≡ cutNumberOf (now (bytes .entry)) start ended) ⌝ }
 {
     if bytes.len() <= start {
         if ended {

@@ -17,20 +17,20 @@ enum-known-cut c = search needs
 sub-read-record : tie.Need-sub-read-record
 sub-read-record c =
     let a = c .before .before .before .before .before .args in
-    let i = inside (a .bytes .now) (a .start) (a .ended) _ _ (sym (c .before .before .before .cut-record .ensures) ∙ c .before .cut .given .1) in
-    i .0
+    let i = inside (a .bytes .now) (a .start) (a .ended) _ _ (sym (c .before .before .before .cut-record .ensures .0) ∙ c .before .cut .given .1) in
+    omega (arith, i .0, i .1, i .2)
 
 part-read-record-start : tie.Need-part-read-record-start
 part-read-record-start c =
     let a = c .before .before .before .before .before .args in
-    let i = inside (a .bytes .now) (a .start) (a .ended) _ _ (sym (c .before .before .before .cut-record .ensures) ∙ c .before .cut .given .1) in
-    i .0
+    let i = inside (a .bytes .now) (a .start) (a .ended) _ _ (sym (c .before .before .before .cut-record .ensures .0) ∙ c .before .cut .given .1) in
+    omega (arith, i .0, i .1, i .2)
 
 part-read-record-end : tie.Need-part-read-record-end
 part-read-record-end c =
     let a = c .before .before .before .before .before .args in
-    let i = inside (a .bytes .now) (a .start) (a .ended) _ _ (sym (c .before .before .before .cut-record .ensures) ∙ c .before .cut .given .1) in
-    i .1
+    let i = inside (a .bytes .now) (a .start) (a .ended) _ _ (sym (c .before .before .before .cut-record .ensures .0) ∙ c .before .cut .given .1) in
+    omega (arith, i .0, i .1, i .2)
 
 read-record-requires : tie.Need-read-record-requires
 read-record-requires c κs = search needs
@@ -58,19 +58,19 @@ stepped-requires-2 c κs = search needs
 
 returns : tie.Need-returns
 unfolding advanceOf
-returns c = rw (← c .before .before .before .before .before .before .cut-record .ensures, c .before .before .before .before .cut .given .1) (rw (c .before .read-record .ensures) at (c .stepped .ensures))
+returns c = rw (← c .before .before .before .before .before .before .cut-record .ensures .0, c .before .before .before .before .cut .given .1) (rw (c .before .read-record .ensures) at (c .stepped .ensures))
 
 returns-2 : tie.Need-returns-2
 unfolding advanceOf
-returns-2 c = rw (← c .before .before .cut-record .ensures, c .enum-told .given .1)
+returns-2 c = rw (← c .before .before .cut-record .ensures .0, c .enum-told .given .1)
 
 returns-3 : tie.Need-returns-3
 unfolding advanceOf
-returns-3 c = rw (← c .before .before .before .cut-record .ensures, c .before .enum-told2 .given .1) (c .done .ensures)
+returns-3 c = rw (← c .before .before .before .cut-record .ensures .0, c .before .enum-told2 .given .1) (c .done .ensures)
 
 returns-4 : tie.Need-returns-4
 unfolding advanceOf
-returns-4 c = rw (← c .before .before .before .before .cut-record .ensures, c .before .before .enum-told3 .given .1) (rw (c .before .refused .ensures) at (c .stepped2 .ensures))
+returns-4 c = rw (← c .before .before .before .before .cut-record .ensures .0, c .before .before .enum-told3 .given .1) (rw (c .before .refused .ensures) at (c .stepped2 .ensures))
 
 pub advance-at-spec : {M : Type 1} → statement M
 advance-at-spec =

@@ -31,11 +31,11 @@ start-with-requires c κs = search needs
 
 returns-2 : tie.Need-returns-2
 unfolding followRecord
-returns-2 c = rw (le-ltb _ _ (c .before .before .before .before .if1 .left), ← c .before .before .before .first-fields .ensures, c .before .enum-told .given .1) (c .refused .ensures)
+returns-2 c = rw (le-ltb _ _ (c .before .before .before .before .if1 .left), ← c .before .before .before .first-fields .ensures .0, c .before .enum-told .given .1) (c .refused .ensures)
 
 returns-3 : tie.Need-returns-3
 unfolding followRecord
-returns-3 c = rw (le-ltb _ _ (c .before .before .before .before .before .if1 .left), ← c .before .before .before .before .first-fields .ensures, c .before .before .first .given .1) (c .start-with .ensures)
+returns-3 c = rw (le-ltb _ _ (c .before .before .before .before .before .if1 .left), ← c .before .before .before .before .first-fields .ensures .0, c .before .before .first .given .1) (c .start-with .ensures)
 
 pub read-record-spec : {M : Type 1} → statement M
 read-record-spec =

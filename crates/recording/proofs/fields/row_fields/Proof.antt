@@ -8,7 +8,7 @@ use lib.ListN.{length, drop}
 use Rattle.recording.specs.Fields.{parts}
 use Rattle.recording.specs.Row.{rowOf}
 use Rattle.recording.proofs.Parts.{some-parts}
-use Rattle.recording.proofs.Rows.{goRow, row-long, row-start, parts-count, row-broken, row-odd, was-paired, row-both, row-last, two-fewer, pair-next}
+use Rattle.recording.proofs.Rows.{goRow, row-long, row-start, parts-count, row-broken, odd-answered, was-paired, row-both, row-last, two-fewer, pair-next}
 use Rattle.recording.proofs.fields.row_fields.Statement.{statement}
 use Rattle.recording.proofs.fields.row_fields.Tie as tie
 
@@ -68,7 +68,7 @@ returns-3 : tie.Need-returns-3 Inv-loop μ-loop
 returns-3 c =
     let l = c .before .before .before .before .before .before .loop in
     c .whole-row .ensures
-    ∙ rw (c .before .with-word .ensures) (sym (row-odd (l .at) (l .pairs) _ (l .words) (l .counts) _ (sym (c .before .before .before .before .before .pair-at .ensures) ∙ c .before .before .before .pair .given .1)))
+    ∙ odd-answered (l .at) (l .pairs) _ _ _ (l .words) (l .counts) _ (sym (c .before .before .before .before .before .pair-at .ensures) ∙ c .before .before .before .pair .given .1) (omega arith) (c .before .with-word .ensures)
     ∙ l .inv .3
 
 enum-known-pair-2 : tie.Need-enum-known-pair-2 Inv-loop μ-loop

@@ -2,6 +2,7 @@
 -- Assumes nothing.
 use borrow.Author.Needs.{needs}
 use mathlib.Core.Path.{sym, _∙_}
+use Prim.Native.Nat.{_+_}
 use Rattle.recording.proofs.Cuts.{return-feed, return-other, return-last}
 use Rattle.recording.proofs.records.after_return.Statement.{statement}
 use Rattle.recording.proofs.records.after_return.Tie as tie
@@ -18,7 +19,7 @@ add-t11 c = search needs
 returns : tie.Need-returns
 returns c =
     let a = c .before .before .before .args in
-    sym (return-feed (a .ended) (a .at) _ _ (c .before .before .if1 .taken) (c .if2 .taken))
+    sym (return-feed (a .ended) (a .at) (a .at + 1) (a .bytes .now) (c .before .before .if1 .taken) (c .if2 .taken))
 
 returns-2 : tie.Need-returns-2
 returns-2 c =

@@ -6,6 +6,7 @@ use Prim.Native.Nat.{_≤_, _-_}
 use native.Mathlib.Omega.{arith}
 use lib.ListN.{length, drop}
 use Rattle.recording.specs.Cutting.{goesOn, cutOf}
+use Rattle.recording.proofs.Answers.{cut-answered}
 use Rattle.recording.proofs.Cuts.{begins-none, begins-some, goes-last, goes-open, goes-return, goes-full, goes-feed, goes-more}
 use Rattle.recording.proofs.records.cut_record.Statement.{statement}
 use Rattle.recording.proofs.records.cut_record.Tie as tie
@@ -20,12 +21,12 @@ abbrev μ-loop : tie.MeasureT-loop
 returns : tie.Need-returns Inv-loop μ-loop
 returns c =
     let a = c .before .before .before .args in
-    sym (begins-none (a .ended) (a .start) _ (c .before .if1 .taken) ∙ rw (c .if2 .taken))
+    cut-answered _ _ _ _ (sym (begins-none (a .ended) (a .start) _ (c .before .if1 .taken) ∙ rw (c .if2 .taken)))
 
 returns-2 : tie.Need-returns-2 Inv-loop μ-loop
 returns-2 c =
     let a = c .before .before .before .args in
-    sym (begins-none (a .ended) (a .start) _ (c .before .if1 .taken) ∙ rw (c .if2 .left))
+    cut-answered _ _ _ _ (sym (begins-none (a .ended) (a .start) _ (c .before .if1 .taken) ∙ rw (c .if2 .left)))
 
 loop-holds : tie.Need-loop-holds Inv-loop μ-loop
 loop-holds c =
@@ -41,17 +42,17 @@ after-return-requires c κs = omega arith
 returns-3 : tie.Need-returns-3 Inv-loop μ-loop
 returns-3 c =
     let l = c .before .before .before .before .loop in
-    c .after-return .ensures ∙ sym (goes-return _ (l .at) _ (l .room) (search needs) (search needs)) ∙ l .inv .2
+    cut-answered _ _ _ _ (c .after-return .ensures ∙ sym (goes-return _ (l .at) _ (l .room) (search needs) (search needs)) ∙ l .inv .2)
 
 returns-4 : tie.Need-returns-4 Inv-loop μ-loop
 returns-4 c =
     let l = c .before .before .before .before .loop in
-    sym (goes-full _ (l .at) _ (l .room) (search needs) (search needs) (search needs)) ∙ l .inv .2
+    cut-answered _ _ _ _ (sym (goes-full _ (l .at) _ (l .room) (search needs) (search needs) (search needs)) ∙ l .inv .2)
 
 returns-5 : tie.Need-returns-5 Inv-loop μ-loop
 returns-5 c =
     let l = c .before .before .before .before .before .loop in
-    sym (goes-feed _ (l .at) _ (l .room) (search needs) (search needs) (search needs)) ∙ l .inv .2
+    cut-answered _ _ _ _ (sym (goes-feed _ (l .at) _ (l .room) (search needs) (search needs) (search needs)) ∙ l .inv .2)
 
 sub-room : tie.Need-sub-room Inv-loop μ-loop
 sub-room c = omega arith
@@ -70,12 +71,12 @@ loop-again c =
 returns-6 : tie.Need-returns-6 Inv-loop μ-loop
 returns-6 c =
     let l = c .before .before .loop in
-    sym (goes-last _ (l .at) _ (l .room) (search needs) (search needs)) ∙ l .inv .2
+    cut-answered _ _ _ _ (sym (goes-last _ (l .at) _ (l .room) (search needs) (search needs)) ∙ l .inv .2)
 
 returns-7 : tie.Need-returns-7 Inv-loop μ-loop
 returns-7 c =
     let l = c .before .before .loop in
-    sym (goes-open _ (l .at) _ (l .room) (search needs) (search needs)) ∙ l .inv .2
+    cut-answered _ _ _ _ (sym (goes-open _ (l .at) _ (l .room) (search needs) (search needs)) ∙ l .inv .2)
 
 pub cut-record-spec : {M : Type 1} → statement M
 cut-record-spec =

@@ -1,0 +1,5 @@
+pub mod Decimals
+pub mod Stores
+pub mod LineLaws
+pub mod Written
+pub mod Samples

@@ -1,0 +1,42 @@
+-- The lines of `Lines` as the pieces that are written one after another, and how long they are.
+-- Assumes nothing.
+use mathlib.Core.Path.{_≡_}
+use mathlib.Core.List.{List, [], _∷_, _++_, append-assoc}
+use Prim.Native.Nat.{ℕ, _+_}
+use native.Mathlib.Omega.{arith}
+use lib.ListN.{length, length-append}
+use Rattle.lines.specs.Decimal.{digitsOf}
+use Rattle.lines.specs.Lines.{recordOf, lineOf, refusalOf}
+use Rattle.lines.specs.Pieces.{fieldBytes, slotBytes, counterBytes}
+
+pub slot-length : (slot group turn : ℕ) → length (slotBytes slot group turn) ≡ length (digitsOf slot) + length (digitsOf group) + 4
+unfolding slotBytes
+slot-length slot group turn = simp length-append (omega arith)
+
+pub counter-length : (urgent long resolution : ℕ)
+    → length (counterBytes urgent long resolution) ≡ length (digitsOf urgent) + length (digitsOf long) + length (digitsOf resolution) + 4
+unfolding counterBytes
+counter-length urgent long resolution = simp length-append (omega arith)
+
+module _ (slot group turn urgent long resolution : ℕ) where
+  pub line-halves : slotBytes slot group turn ++ counterBytes urgent long resolution ≡ lineOf slot group turn urgent long resolution
+  unfolding slotBytes counterBytes lineOf recordOf
+  line-halves = simp append-assoc
+
+  pub line-length : length (lineOf slot group turn urgent long resolution)
+      ≡ length (digitsOf slot) + length (digitsOf group) + length (digitsOf urgent) + length (digitsOf long) + length (digitsOf resolution) + 8
+  unfolding lineOf recordOf
+  line-length = simp length-append (omega arith)
+
+-- `refused,`
+abbrev pub refusedBytes : List ℕ
+refusedBytes = 114 ∷ 101 ∷ 102 ∷ 117 ∷ 115 ∷ 101 ∷ 100 ∷ 44 ∷ []
+
+module _ (number place : ℕ) where
+  pub refusal-pieces : refusedBytes ++ fieldBytes number 44 ++ fieldBytes place 13 ++ (10 ∷ []) ≡ refusalOf number place
+  unfolding refusalOf recordOf
+  refusal-pieces = simp append-assoc
+
+  pub refusal-length : length (refusalOf number place) ≡ length (digitsOf number) + length (digitsOf place) + 11
+  unfolding refusalOf recordOf
+  refusal-length = simp length-append (omega arith)
