@@ -1,13 +1,13 @@
 -- A start and an offer, decided on the table by value and written back, are the channel's definitions: table, wire and answer. Assumes nothing.
 use mathlib.Core.Path.{_≡_, refl, sym, ap, subst, _∙_}
 use mathlib.Core.Bool.{Bool, true, false, _&&_, cond}
-use mathlib.Core.List.{List, [], _∷_, map}
-use Prim.Native.Nat.{ℕ, zero, suc, _+_, _-_, _≤_, _<_}
+use mathlib.Core.List.{List, [], _∷_}
+use Prim.Native.Nat.{ℕ, zero, suc, _-_, _≤_}
 use native.Mathlib.Omega.{arith}
 use lib.Dec.{eqb, leb, ltb}
 use lib.ListN.{length, getD, set, take, replicate, length-replicate, length-map, length-set}
 use lib.Seq.{take-all}
-use borrow.Author.Tests.{leb-true, ltb-true, eqb-true}
+use borrow.Author.Tests.{leb-true, eqb-true}
 use Rattle.rules.specs.declared.Station.{Station}
 use Rattle.rules.specs.declared.StationOffered.{StationOffered}
 use Rattle.rules.specs.declared.Row.{Row}
@@ -17,31 +17,32 @@ use Rattle.rules.specs.Starting.{inRanges}
 use Rattle.rules.specs.StationCalls.{noStation, startStation, offerOf}
 use Rattle.rules.specs.Soundness.{differ, soundTable}
 use Rattle.rules.specs.declared.StartAnswer.the-variants.{Ready}
-use Rattle.rules.specs.ChannelCalls.{Channel, ChannelResult, ChannelStarted, blankWire, newStations, newChannel, isIndex, refusedStart, refused as refusedCallOf, positionOf, offeredAt, channelStartOf, channelOfferOf}
+use Rattle.rules.specs.ChannelCalls.{ChannelResult, ChannelStarted, blankWire, newStations, newChannel, isIndex, refusedStart, refused as refusedCallOf, positionOf, offeredAt, channelStartOf, channelOfferOf}
 use Rattle.rules.proofs.SlotStep.{and-both}
-use Rattle.channel.specs.declared.Loaded.{Loaded}
-use Rattle.channel.specs.declared.Beginning.{Beginning}
-use Rattle.channel.specs.declared.Offered.{Offered}
-use Rattle.channel.specs.Steps.{zipped}
-use Rattle.channel.specs.Loading.{second, blankStations, blankOf, withOf, loadOf, storeOf}
-use Rattle.channel.specs.Deciding.{channelOf, tableIn, refusedBeginning, beginningOf, refusedOffered, offeredTo, offeredOf}
+use Rattle.decisions.specs.declared.Loaded.{Loaded}
+use Rattle.decisions.specs.declared.Beginning.{Beginning}
+use Rattle.decisions.specs.declared.Offered.{Offered}
+use Rattle.decisions.specs.Steps.{allSteps}
+use Rattle.decisions.specs.Loading.{second, blankStations, blankOf, withOf, loadOf}
+use Rattle.decisions.specs.Deciding.{channelOf, tableIn, refusedBeginning, beginningOf, refusedOffered, offeredTo, offeredOf}
+use Rattle.channel.specs.Writing.{storeOf}
 
 -- ---- the table by value, and back
 
-pub zipped-none : {X Y : Type 0} (f : X → Y → X) (xs : List X) → zipped f xs [] ≡ xs
-unfolding zipped
-zipped-none f [] = refl
-zipped-none f (x ∷ xs) = refl
+pub allSteps-none : {X Y : Type 0} (f : X → Y → X) (xs : List X) → allSteps f xs [] ≡ xs
+unfolding allSteps
+allSteps-none f [] = refl
+allSteps-none f (x ∷ xs) = refl
 
-zipped-whole : (ys zs : List Station) → length ys ≡ length zs → zipped second ys zs ≡ zs
-unfolding zipped
-zipped-whole [] [] e = refl
-zipped-whole [] (z ∷ zs) e = absurd (omega arith)
-zipped-whole (y ∷ ys) [] e = absurd (omega arith)
-zipped-whole (y ∷ ys) (z ∷ zs) e = ap (λ (l : List Station). z ∷ l) (zipped-whole ys zs (omega arith))
+allSteps-whole : (ys zs : List Station) → length ys ≡ length zs → allSteps second ys zs ≡ zs
+unfolding allSteps
+allSteps-whole [] [] e = refl
+allSteps-whole [] (z ∷ zs) e = absurd (omega arith)
+allSteps-whole (y ∷ ys) [] e = absurd (omega arith)
+allSteps-whole (y ∷ ys) (z ∷ zs) e = ap (λ (l : List Station). z ∷ l) (allSteps-whole ys zs (omega arith))
 
-pub over-first : {X : Type 0} (f : X → X → X) → ((y x : X) → f y x ≡ x) → (bs ys : List X) → length ys ≤ length bs → take (length ys) (zipped f bs ys) ≡ ys
-unfolding zipped
+pub over-first : {X : Type 0} (f : X → X → X) → ((y x : X) → f y x ≡ x) → (bs ys : List X) → length ys ≤ length bs → take (length ys) (allSteps f bs ys) ≡ ys
+unfolding allSteps
 over-first f h bs [] l = refl
 over-first f h [] (y ∷ ys) l = absurd (omega arith)
 over-first f h (b ∷ bs) (y ∷ ys) l = rw (h b y, over-first f h bs ys (omega arith))
@@ -60,17 +61,17 @@ module _ (ys : List Station) (few : length ys ≤ 64) where
   pub stored-with : (k : ℕ) (s : Station) → storeOf ys (withOf (loadOf ys) k s) ≡ set ys k s
   unfolding storeOf withOf loadOf
   stored-with k s =
-      rw (take-set (length ys) (zipped second (replicate 64 noStation) (take 64 ys)) k s, take-all 64 ys few, over-first second (λ y x. refl) (replicate 64 noStation) ys (rw length-replicate few))
-      (zipped-whole ys (set ys k s) (sym (length-set ys k s)))
+      rw (take-set (length ys) (allSteps second (replicate 64 noStation) (take 64 ys)) k s, take-all 64 ys few, over-first second (λ y x. refl) (replicate 64 noStation) ys (rw length-replicate few))
+      (allSteps-whole ys (set ys k s) (sym (length-set ys k s)))
 
   pub stored-loaded : (zs : List Station) → length zs ≡ length ys → storeOf ys (loadOf zs) ≡ zs
   unfolding storeOf loadOf
   stored-loaded zs e =
-      rw (take-all 64 zs (omega arith), over-first second (λ y x. refl) (replicate 64 noStation) zs (rw length-replicate (omega arith))) (zipped-whole ys zs (sym e))
+      rw (take-all 64 zs (omega arith), over-first second (λ y x. refl) (replicate 64 noStation) zs (rw length-replicate (omega arith))) (allSteps-whole ys zs (sym e))
 
 pub stored-none : (ys : List Station) → storeOf ys (blankOf 0) ≡ ys
 unfolding storeOf blankOf blankStations
-stored-none ys = zipped-none second ys
+stored-none ys = allSteps-none second ys
 
 pub loaded-count : (ys : List Station) → loadOf ys .count ≡ length ys
 unfolding loadOf

@@ -20,7 +20,7 @@ use denote.RattleType.{RattleType}
 use denote.Memory.{cellAt, lone, partAt, shares, partOf}
 use denote.Laws.{Is, Tells, Makes, shows}
 use denote.Index.{row}
-use denote.Array.{Array, arrayVal, array-vals, array-tells, array-makes}
+use denote.Array.{Array, arrayVal, array-tells, array-makes}
 use denote.ArrayMemory.{Single, array-apart, array-whole}
 use denote.Steps.{owned, peeks}
 

@@ -9,10 +9,10 @@ use Rattle.rules.specs.declared.Answer.{Answer}
 use Rattle.rules.specs.declared.StartAnswer.{StartAnswer}
 use Rattle.rules.specs.declared.StartAnswer.the-variants.{Ready}
 use Rattle.rules.specs.Calls.{Call, Offer, Slot}
-use Rattle.rules.specs.ChannelCalls.{Channel, ChannelResult, channelStartOf, channelCall, channelAfter, channelAnswers}
+use Rattle.rules.specs.ChannelCalls.{Channel, channelStartOf, channelCall, channelAfter, channelAnswers}
 use Rattle.rules.specs.Demand3.{Demand3}
 use Rattle.rules.proofs.Theorem.{demand3}
-use Rattle.channel.specs.Deciding.{channelOf}
+use Rattle.decisions.specs.Deciding.{channelOf}
 use Rattle.channel.specs.Runs.{Left, StartMet, CallMet, Ran, finally}
 
 -- a call that meets its contract left the channel's state and answer

@@ -1,27 +1,23 @@
 -- What the walks over the lent table share.
 mod After
 mod Value
-mod Lent
-mod StationValue
+pub mod Lent
+pub mod StationValue
 mod LoadedValue
 mod PlanValue
 mod Uses
 mod Loans
-mod Loops
-mod Parts
-mod Arms
-mod Heard
 mod Calls
 mod Sends
 mod Slots
 mod RowValue
-mod CalledValue
-mod BegunValue
+pub mod CalledValue
+pub mod BegunValue
 mod OfferedValue
 mod BeginningValue
 mod PlannedValue
-mod WireValue
+pub mod WireValue
 mod Passed
 pub mod Chain
-mod Cells
+pub mod Cells
 mod StationsValue

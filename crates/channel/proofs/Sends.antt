@@ -1,14 +1,14 @@
 -- The stations' slots by the plan: where each station's slot goes through as the plan says, the records after, the group's new row and the data senders
 -- are those of the channel's definition. Assumes nothing.
-use mathlib.Core.Path.{_≡_, refl, sym, ap, subst, _∙_}
+use mathlib.Core.Path.{_≡_, refl, sym, ap, _∙_}
 use mathlib.Core.Bool.{Bool, true, false, _&&_, cond}
 use mathlib.Core.List.{List, [], _∷_, _++_, map}
 use Prim.Native.Nat.{ℕ, zero, suc, _+_, _-_, _≤_, _<_}
 use native.Mathlib.Numerals.{add-one}
 use native.Mathlib.Omega.{arith}
 use lib.Dec.{eqb, ltb}
-use lib.ListN.{length, getD, set, replicate}
-use borrow.Author.Tests.{eq-eqb, ne-eqb, eqb-true, lt-ltb}
+use lib.ListN.{length, getD, set}
+use borrow.Author.Tests.{eq-eqb, ne-eqb}
 use Rattle.minislot.specs.declared.Minislot.{Minislot}
 use Rattle.minislot.specs.Together.{Request, carries, silent, joined, together}
 use Rattle.rules.specs.declared.Turn.{Turn}
@@ -20,15 +20,15 @@ use Rattle.rules.specs.declared.StationSlot.{StationSlot}
 use Rattle.rules.specs.declared.SlotAnswer.the-variants.{Went as WentSlot}
 use Rattle.rules.specs.Lists.{onlyIf}
 use Rattle.rules.specs.Requesting.{requests, requested, waitsIn, totalOf}
-use Rattle.rules.specs.Serving.{sends, moved, urgentMoves, longMoves}
+use Rattle.rules.specs.Serving.{moved}
 use Rattle.rules.specs.StationCalls.{requestMinislot, slotOf}
-use Rattle.rules.specs.ChannelCalls.{slotsOf, requestsIn, newRow, DataSent, dataSent, loneIndex, loneSegment}
-use Rattle.channel.specs.declared.Plan.{Plan}
-use Rattle.channel.specs.declared.Sent.{Sent}
-use Rattle.channel.specs.declared.Spoken.{Spoken}
-use Rattle.channel.specs.Steps.{zipped}
-use Rattle.channel.specs.Planning.{settledIn, stepOf}
-use Rattle.channel.specs.Sending.{spokenOf, placed, silence, gathered, sentOf}
+use Rattle.rules.specs.ChannelCalls.{slotsOf, newRow, DataSent, dataSent, loneIndex, loneSegment}
+use Rattle.plans.specs.declared.Plan.{Plan}
+use Rattle.plans.specs.declared.Sent.{Sent}
+use Rattle.plans.specs.declared.Spoken.{Spoken}
+use Rattle.decisions.specs.Steps.{allSteps}
+use Rattle.plans.specs.Planning.{settledIn, stepOf}
+use Rattle.plans.specs.Sending.{spokenOf, placed, silence, gathered, sentOf}
 
 -- ---- a request carries the total that the condition after the step has
 
@@ -140,8 +140,8 @@ module _ (p : Plan) (words counts : List ℕ) where
   Goes (s ∷ l) [] = Unit {0}
   Goes (s ∷ l) (k ∷ ks) = (slotOf s words counts k ≡ wentBy p s k) × (spokenOf p s k .minislot ≤ 8) × Goes l ks
 
-  pub stations-are : (l : List Station) (ks : List ℕ) → length ks ≡ length l → Goes l ks → zipped (stepOf p) l ks ≡ map (λ (r : StationSlot). r .station) (slotsOf words counts l ks)
-  unfolding zipped
+  pub stations-are : (l : List Station) (ks : List ℕ) → length ks ≡ length l → Goes l ks → allSteps (stepOf p) l ks ≡ map (λ (r : StationSlot). r .station) (slotsOf words counts l ks)
+  unfolding allSteps
   stations-are [] ks e g = refl
   stations-are (s ∷ l) [] e g = absurd (omega arith)
   stations-are (s ∷ l) (k ∷ ks) e g = rw (g .0, stations-are l ks (omega arith) (g .2))

@@ -1,11 +1,11 @@
 -- A slot, planned on the table by value and stepped in place, is the channel's definition: table, wire and answer. Assumes nothing.
 use mathlib.Core.Path.{_≡_, refl, sym, ap, subst, _∙_}
-use mathlib.Core.Bool.{Bool, true, false, _&&_, cond}
+use mathlib.Core.Bool.{Bool, true, false, cond}
 use mathlib.Core.List.{List, [], _∷_, map}
 use Prim.Native.Nat.{ℕ, zero, suc, _+_, _-_, _≤_, _<_}
 use native.Mathlib.Nat.{zero-add}
 use native.Mathlib.Omega.{arith}
-use lib.Dec.{eqb, leb}
+use lib.Dec.{eqb}
 use lib.ListN.{length, getD, set, take, replicate, length-replicate}
 use lib.Seq.{take-all}
 use borrow.Author.Tests.{eqb-true}
@@ -31,26 +31,25 @@ use Rattle.rules.specs.Queueing.{placesOf, immediateOf, placesAfter, passes}
 use Rattle.rules.specs.Turns.{turnOf}
 use Rattle.rules.specs.Settling.{settledBy}
 use Rattle.rules.specs.Requesting.{requests}
-use Rattle.rules.specs.Serving.{sends}
 use Rattle.rules.specs.StationCalls.{noStation, requestMinislot, requesting, segmentSent, stationAfter, slotOf}
 use Rattle.rules.specs.Soundness.{tableCounters, soundTable}
 use Rattle.rules.specs.SoundMeaning.{stationAt}
-use Rattle.rules.specs.ChannelCalls.{ChannelResult, heardRow, refused as refusedCallOf, slotsOf, newRow, dataSent, loneIndex, loneSegment, successes, deliveredNow, slotThrough, slotHeard, channelSlotOf}
-use Rattle.rules.proofs.SlotStep.{and-both}
+use Rattle.rules.specs.ChannelCalls.{ChannelResult, heardRow, refused as refusedCallOf, slotsOf, successes, deliveredNow, slotThrough, slotHeard, channelSlotOf}
 use Rattle.rules.proofs.SoundMeans.{all-at}
 use Rattle.rules.proofs.LimitLaws.{between-bounds}
-use Rattle.rules.proofs.ChannelLaws.{limits, counters-shared, row-length, row-number, station-goes}
-use Rattle.channel.specs.declared.Loaded.{Loaded}
-use Rattle.channel.specs.declared.Plan.{Plan}
-use Rattle.channel.specs.declared.Sent.{Sent}
-use Rattle.channel.specs.declared.Planned.{Planned}
-use Rattle.channel.specs.Steps.{zipped}
-use Rattle.channel.specs.Loading.{loadOf}
-use Rattle.channel.specs.Planning.{landings, settledIn, stepOf, steppedOf}
-use Rattle.channel.specs.Sending.{spokenOf, sentOf}
-use Rattle.channel.specs.Deciding.{channelOf, tableIn, latter, picksOf, noPlan, refusedPlan, plannedFrom, planOf, calledOf, rowIn, plannedBy, heardPlan, plannedOf}
-use Rattle.channel.proofs.Parts.{settled-same}
-use Rattle.channel.proofs.Calls.{zipped-none, over-first, table-loaded, loaded-count, few-true}
+use Rattle.rules.proofs.ChannelLaws.{limits, counters-shared, row-length, station-goes}
+use Rattle.decisions.specs.declared.Loaded.{Loaded}
+use Rattle.plans.specs.declared.Plan.{Plan}
+use Rattle.plans.specs.declared.Sent.{Sent}
+use Rattle.decisions.specs.declared.Planned.{Planned}
+use Rattle.decisions.specs.Steps.{allSteps}
+use Rattle.decisions.specs.Loading.{loadOf}
+use Rattle.plans.specs.Planning.{plannedFrom, settledIn, stepOf}
+use Rattle.plans.specs.Sending.{spokenOf, sentOf}
+use Rattle.decisions.specs.Deciding.{channelOf, latter, picksOf, noPlan, refusedPlan, planOf, calledOf, heardPlan, plannedOf}
+use Rattle.channel.specs.Writing.{steppedOf}
+use Rattle.plans.proofs.Parts.{settled-same}
+use Rattle.channel.proofs.Calls.{allSteps-none, over-first, table-loaded, loaded-count, few-true}
 use Rattle.channel.proofs.Sends.{wentBy, Goes, stations-are, SentIs, sent-is}
 
 pub record SlotIs (ys : List Station) (o : Planned) (r : ChannelResult) : Type 0 where
@@ -139,7 +138,7 @@ module _ (ys : List Station) (wire : List Row) (picks : List ℕ) (some : 1 ≤ 
 
     stepped : steppedOf ys plan ≡ map (λ (r : StationSlot). r .station) (slotsOf (wordsOf heard) (countsOf heard) ys picks)
     unfolding steppedOf planOf plannedFrom
-    stepped = ap (zipped (stepOf plan) ys) held ∙ stations-are plan (wordsOf heard) (countsOf heard) ys picks same all-goes
+    stepped = ap (allSteps (stepOf plan) ys) held ∙ stations-are plan (wordsOf heard) (countsOf heard) ys picks same all-goes
 
     sent : SentIs (sentOf plan ys (take (length ys) (picksOf picks))) (slotsOf (wordsOf heard) (countsOf heard) ys picks)
     sent = subst (λ (ks : List ℕ). SentIs (sentOf plan ys ks) (slotsOf (wordsOf heard) (countsOf heard) ys picks)) (sym held) (sent-is plan (wordsOf heard) (countsOf heard) ys picks same all-goes)
@@ -162,7 +161,7 @@ module _ (ys : List Station) (wire : List Row) (picks : List ℕ) (some : 1 ≤ 
 module _ (ys : List Station) (wire : List Row) (picks : List ℕ) where
   stays : (k : ℕ) → SlotIs ys (refusedPlan wire k) (refusedCallOf (channelOf ys wire) k)
   unfolding steppedOf
-  stays k = record { stations = zipped-none (stepOf noPlan) ys; wire = refl; answer = refl }
+  stays k = record { stations = allSteps-none (stepOf noPlan) ys; wire = refl; answer = refl }
 
   abbrev rowOn : List Station → List Feedback
   rowOn t = feedbacks (readings (wordsOf (heardRow (channelOf t wire))) (countsOf (heardRow (channelOf t wire))))

@@ -1,6 +1,2 @@
-pub mod Steps
-pub mod Loading
-pub mod Planning
-pub mod Sending
-pub mod Deciding
+pub mod Writing
 pub mod Runs

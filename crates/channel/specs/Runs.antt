@@ -1,7 +1,7 @@
 -- A run of the calls, in terms of their own contracts: each call gets the table and the wire that the one before left, and leaves and answers what its
 -- contract says (paper 01, "Demand 3's list"). Assumes nothing.
 use mathlib.Core.Path.{_≡_}
-use mathlib.Core.List.{List, [], _∷_, map}
+use mathlib.Core.List.{List, [], _∷_}
 use Prim.Native.Nat.{ℕ}
 use Rattle.rules.specs.declared.Station.{Station}
 use Rattle.rules.specs.declared.Row.{Row}
@@ -9,7 +9,7 @@ use Rattle.rules.specs.declared.Answer.{Answer}
 use Rattle.rules.specs.declared.StartAnswer.{StartAnswer}
 use Rattle.rules.specs.Calls.{Call, Offer, Slot}
 use Rattle.rules.specs.ChannelCalls.{Channel, channelStartOf, channelOfferOf, channelSlotOf}
-use Rattle.channel.specs.Deciding.{channelOf}
+use Rattle.decisions.specs.Deciding.{channelOf}
 
 -- what a call leaves: the lent table, the wire handed back, and the answer
 pub record Left : Type 0 where

@@ -16,9 +16,9 @@ use prog.Wp.{Heap, WpFn, Tables}
 use ghost.Atoms.{Atoms}
 use contract.Monad.{Fun}
 use contract.Running.{givenOf, tables, tablesOf}
-use types.Kit.{Given, ‵, _⊛_, ⋆, _$_, _∵_, !, qed, by, move, keep, drop, split, join, fsplit, fjoin, feqI, suffices, frame, done}
+use types.Kit.{Given, ‵, _⊛_, ⋆, _$_, _∵_, !, qed, by, move, keep, drop, split, join, fsplit, fjoin, suffices, frame, done}
 use types.Part.{whole, sub, look-in, agg}
-use types.Run.{look, init, forget, stop, hop, fld, from, load, addr, unit-lit, of-opd, and-then, no-more, assigns, land, returns, enter, alloc1, alloc0, params1, pass1, pass0, free1, free0}
+use types.Run.{look, init, forget, stop, hop, fld, from, load, addr, of-opd, and-then, no-more, assigns, land, returns, enter, alloc1, alloc0, params1, pass1, pass0, free1, free0}
 use sound.WpLaws.{fmOf, WpFn-mono}
 use denote.Exit.{yes}
 use denote.RattleType.{owns}
@@ -40,14 +40,15 @@ use denote.Triple.Table.{entered, cited}
 use denote.Triple.Walked.{says, Stays, stay-slice, stay-none, walkOf, Walks, ends-at, walked, goes-slice, goes-none, walk-meets}
 use Rattle.rules.specs.declared.Station.{Station}
 use Rattle.rules.specs.declared.Row.{Row}
-use Rattle.channel.specs.declared.Called.{Called}
-use Rattle.channel.specs.declared.Offered.{Offered}
-use Rattle.channel.specs.Loading.{loadOf, storeOf, length-store}
-use Rattle.channel.specs.Deciding.{channelOf, offeredOf}
+use Rattle.decisions.specs.declared.Called.{Called}
+use Rattle.decisions.specs.declared.Offered.{Offered}
+use Rattle.decisions.specs.Loading.{loadOf}
+use Rattle.decisions.specs.Deciding.{channelOf, offeredOf}
+use Rattle.channel.specs.Writing.{storeOf, length-store}
 use Rattle.rules.specs.ChannelCalls.{channelOfferOf}
-use Rattle.channel.proofs.Loaded.Laws as B′
-use Rattle.channel.proofs.Offered.Laws as O′
-use Rattle.channel.proofs.Called.Laws as C′
+use Rattle.decisions.proofs.Loaded.Laws as B′
+use Rattle.decisions.proofs.Offered.Laws as O′
+use Rattle.decisions.proofs.Called.Laws as C′
 use Rattle.channel.proofs.StationValue.{R}
 use Rattle.channel.proofs.LoadedValue as B
 use Rattle.channel.proofs.OfferedValue as O
@@ -64,9 +65,9 @@ use Rattle.channel.proofs.load.Met as load-thm
 use Rattle.channel.proofs.store.Symbol as store-def
 use Rattle.channel.proofs.store.Symbol.{name as #channel·store}
 use Rattle.channel.proofs.store.Met as store-thm
-use Rattle.channel.proofs.place_offer.Symbol as place-def
-use Rattle.channel.proofs.place_offer.Symbol.{name as #channel·place-offer}
-use Rattle.channel.proofs.place_offer.Met as place-thm
+use Rattle.decisions.proofs.place_offer.Symbol as place-def
+use Rattle.decisions.proofs.place_offer.Symbol.{name as #decisions·place-offer}
+use Rattle.decisions.proofs.place_offer.Met as place-thm
 use Rattle.channel.proofs.offer.Key.{name as #channel·offer}
 use Rattle.channel.proofs.offer as offer′
 use Rattle.channel.proofs.offer.Statement as stated
@@ -151,7 +152,7 @@ module _ {M : Type 1} (𝓤 : URA M) (H : Heap 𝓤) (A : Atoms 𝓤) (W : Given
       is : OfferIs ys (offeredOf (loadOf ys) w i n) (channelOfferOf (channelOf ys w) i n)
       is = offer-is ys w i n
 
-  walk : (𝓣 : Tables 𝓤 H) → Triple 𝓤 (𝓣 .C #channel·load) (Load 𝓤 H A mem run) → Triple 𝓤 (𝓣 .C #channel·place-offer) (PlaceOffer 𝓤 H A mem run) → Triple 𝓤 (𝓣 .C #channel·store) (Store 𝓤 H A mem run)
+  walk : (𝓣 : Tables 𝓤 H) → Triple 𝓤 (𝓣 .C #channel·load) (Load 𝓤 H A mem run) → Triple 𝓤 (𝓣 .C #decisions·place-offer) (PlaceOffer 𝓤 H A mem run) → Triple 𝓤 (𝓣 .C #channel·store) (Store 𝓤 H A mem run)
       → ent 𝓤 (onEntry 𝓤 H A offer′.signature (κ, tt) (q, tt) a mach) (WpFn 𝓤 H (𝓣 .C) (𝓣 .Λ) fn (sliceVal (b, o) (length ys) ∷ Z.val w ∷ vint w16 i ∷ vint w64 n ∷ []) Post)
   walk 𝓣 known-load known-place known-store =
       qed W ((‵ (flft κ q) ⊛ ‵ ftrue) ∷ ‵ (owns (MutSlice (named 0) κ R ∷ Z.R ∷ u16 ∷ usize ∷ []) a mach) ∷ []) ∵ enter ! (𝓣 .C) (𝓣 .Λ) fn (sliceVal (b, o) (length ys) ∷ Z.val w ∷ vint w16 i ∷ vint w64 n ∷ []) _ $
@@ -184,13 +185,13 @@ module _ {M : Type 1} (𝓤 : URA M) (H : Heap 𝓤) (A : Atoms 𝓤) (W : Given
       keep ! (0 ∷ 1 ∷ 2 ∷ []) $ by ! (exits (d .called) refl (O.called-is d gd)))))))))))))))))
 
 module _ {M : Type 1} (𝓤 : URA M) (H : Heap 𝓤) (A : Atoms 𝓤) (W : Given 𝓤 H A) (mem : Memory → SProp 𝓤) (run : Routine → Fun 𝓤) where
-  offer-walks : (𝓣 : Tables 𝓤 H) → Triple 𝓤 (𝓣 .C #channel·load) (Load 𝓤 H A mem run) → Triple 𝓤 (𝓣 .C #channel·place-offer) (PlaceOffer 𝓤 H A mem run) → Triple 𝓤 (𝓣 .C #channel·store) (Store 𝓤 H A mem run)
+  offer-walks : (𝓣 : Tables 𝓤 H) → Triple 𝓤 (𝓣 .C #channel·load) (Load 𝓤 H A mem run) → Triple 𝓤 (𝓣 .C #decisions·place-offer) (PlaceOffer 𝓤 H A mem run) → Triple 𝓤 (𝓣 .C #channel·store) (Store 𝓤 H A mem run)
       → Walks 𝓤 H A offer′.ended stayed (WpFn 𝓤 H (𝓣 .C) (𝓣 .Λ) fn) (offer′.clauses 𝓤 H A mem run)
   offer-walks 𝓣 known-load known-place known-store = walked 𝓤 H A offer′.ended stayed (offer′.clauses 𝓤 H A mem run) (WpFn 𝓤 H (𝓣 .C) (𝓣 .Λ) fn) (λ κs. (slice-vals, (Z.vals, (uint-vals w16, (uint-vals w64, tt))))) (λ κs. (mut-slice-tells (named 0) (κs .0) R, (Z.tells, (uint-tells w16, (uint-tells w64, tt)))))
       (λ κs qs bounds a g are. via 𝓤 _ (fst∗ 𝓤 _ (emp 𝓤)) (walk 𝓤 H A W mem run (κs .0) (qs .0) (a .0 .ptr .0) (a .0 .ptr .1) (a .0 .name) (a .0 .now) (a .1 .0) (a .1 .1 .0) (a .1 .1 .1 .0) (are .0 .0 .1) (are .1 .0) (are .1 .1 .0 .1) (are .1 .1 .1 .0 .1) 𝓣 known-load known-place known-store))
 
 offer-meets : {M : Type 1} (𝓤 : URA M) (H : Heap 𝓤) (A : Atoms 𝓤) → Given 𝓤 H A → (mem : Memory → SProp 𝓤) (run : Routine → Fun 𝓤) (𝓣 : Tables 𝓤 H)
-    → Triple 𝓤 (𝓣 .C #channel·load) (Load 𝓤 H A mem run) → Triple 𝓤 (𝓣 .C #channel·place-offer) (PlaceOffer 𝓤 H A mem run) → Triple 𝓤 (𝓣 .C #channel·store) (Store 𝓤 H A mem run)
+    → Triple 𝓤 (𝓣 .C #channel·load) (Load 𝓤 H A mem run) → Triple 𝓤 (𝓣 .C #decisions·place-offer) (PlaceOffer 𝓤 H A mem run) → Triple 𝓤 (𝓣 .C #channel·store) (Store 𝓤 H A mem run)
     → Meets 𝓤 H A offer′.signature (WpFn 𝓤 H (𝓣 .C) (𝓣 .Λ) code.function) (offer′.spec 𝓤 H A mem run)
 offer-meets 𝓤 H A W mem run 𝓣 known-load known-place known-store =
     walk-meets 𝓤 H A offer′.ended stayed W (goes-slice 𝓤 H A W 1 0 tt (plain (λ _. R)), (goes-none 𝓤 H A W 1 (λ _. Z.R) yes (λ κs x f. refl), (goes-none 𝓤 H A W 1 (λ _. u16) yes (λ κs x f. refl), (goes-none 𝓤 H A W 1 (λ _. usize) yes (λ κs x f. refl), tt)))) (offer′.clauses 𝓤 H A mem run)
@@ -204,5 +205,5 @@ offer-spec 𝓤 H 𝓜 𝓖 𝓡 =
     (tables 𝓤 H 𝓜 𝓡 code.env .C) (tables 𝓤 H 𝓜 𝓡 code.env .Λ) #channel·offer code.function (code.unfolded 𝓤 H 𝓜 𝓡)
     (offer-meets 𝓤 H (𝓖 .A) (givenOf 𝓤 H 𝓜 𝓖) (𝓜 .mem) (𝓡 .run) (tablesOf 𝓤 H 𝓜 (tables 𝓤 H 𝓜 𝓡 code.env))
     (cited 𝓤 H (Load 𝓤 H (𝓖 .A) (𝓜 .mem) (𝓡 .run)) 𝓜 𝓡 code.env #channel·load load-def.routine code.calls-channel·load (load-thm.met 𝓤 H 𝓜 𝓖 𝓡))
-    (cited 𝓤 H (PlaceOffer 𝓤 H (𝓖 .A) (𝓜 .mem) (𝓡 .run)) 𝓜 𝓡 code.env #channel·place-offer place-def.routine code.calls-channel·place-offer (place-thm.met 𝓤 H 𝓜 𝓖 𝓡))
+    (cited 𝓤 H (PlaceOffer 𝓤 H (𝓖 .A) (𝓜 .mem) (𝓡 .run)) 𝓜 𝓡 code.env #decisions·place-offer place-def.routine code.calls-decisions·place-offer (place-thm.met 𝓤 H 𝓜 𝓖 𝓡))
     (cited 𝓤 H (Store 𝓤 H (𝓖 .A) (𝓜 .mem) (𝓡 .run)) 𝓜 𝓡 code.env #channel·store store-def.routine code.calls-channel·store (store-thm.met 𝓤 H 𝓜 𝓖 𝓡)))

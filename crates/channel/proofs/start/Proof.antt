@@ -16,9 +16,9 @@ use prog.Wp.{Heap, WpFn, Tables}
 use ghost.Atoms.{Atoms}
 use contract.Monad.{Fun}
 use contract.Running.{givenOf, tables, tablesOf}
-use types.Kit.{Given, ‵, _⊛_, ⋆, _$_, _∵_, !, qed, by, move, keep, drop, use1, split, join, fsplit, fjoin, feqI, suffices, frame, done}
+use types.Kit.{Given, ‵, _⊛_, ⋆, _$_, _∵_, !, qed, by, move, keep, drop, use1, split, join, fsplit, fjoin, suffices, frame, done}
 use types.Part.{whole, sub, look-in, agg}
-use types.Run.{look, init, forget, stop, hop, fld, from, load, addr, unit-lit, of-opd, and-then, no-more, assigns, land, returns, enter, alloc1, alloc0, params1, pass1, pass0, free1, free0}
+use types.Run.{look, init, forget, stop, hop, fld, from, load, addr, of-opd, and-then, no-more, assigns, land, returns, enter, alloc1, alloc0, params1, pass1, pass0, free1, free0}
 use sound.WpLaws.{fmOf, WpFn-mono}
 use denote.Exit.{yes}
 use denote.RattleType.{owns}
@@ -40,13 +40,13 @@ use denote.Triple.Table.{entered, cited}
 use denote.Triple.Walked.{says, Stays, stay-slice, stay-none, stay-none-slice, walkOf, Walks, ends-at, walked, goes-slice, goes-none, goes-none-slice, walk-meets}
 use Rattle.rules.specs.declared.Station.{Station}
 use Rattle.rules.specs.declared.Row.{Row}
-use Rattle.channel.specs.declared.Begun.{Begun}
-use Rattle.channel.specs.declared.Beginning.{Beginning}
-use Rattle.channel.specs.Loading.{storeOf, length-store}
-use Rattle.channel.specs.Deciding.{channelOf, beginningOf}
+use Rattle.decisions.specs.declared.Begun.{Begun}
+use Rattle.decisions.specs.declared.Beginning.{Beginning}
+use Rattle.decisions.specs.Deciding.{channelOf, beginningOf}
+use Rattle.channel.specs.Writing.{storeOf, length-store}
 use Rattle.rules.specs.ChannelCalls.{channelStartOf}
-use Rattle.channel.proofs.Beginning.Laws as O′
-use Rattle.channel.proofs.Begun.Laws as C′
+use Rattle.decisions.proofs.Beginning.Laws as O′
+use Rattle.decisions.proofs.Begun.Laws as C′
 use Rattle.channel.proofs.StationValue.{R}
 use Rattle.channel.proofs.BeginningValue as O
 use Rattle.channel.proofs.BegunValue as C
@@ -58,9 +58,9 @@ use Rattle.channel.proofs.Lent.{calls-mut}
 use Rattle.channel.proofs.store.Symbol as store-def
 use Rattle.channel.proofs.store.Symbol.{name as #channel·store}
 use Rattle.channel.proofs.store.Met as store-thm
-use Rattle.channel.proofs.begin.Symbol as begin-def
-use Rattle.channel.proofs.begin.Symbol.{name as #channel·begin}
-use Rattle.channel.proofs.begin.Met as begin-thm
+use Rattle.decisions.proofs.begin.Symbol as begin-def
+use Rattle.decisions.proofs.begin.Symbol.{name as #decisions·begin}
+use Rattle.decisions.proofs.begin.Met as begin-thm
 use Rattle.channel.proofs.start.Key.{name as #channel·start}
 use Rattle.channel.proofs.start as start′
 use Rattle.channel.proofs.start.Statement as stated
@@ -145,7 +145,7 @@ module _ {M : Type 1} (𝓤 : URA M) (H : Heap 𝓤) (A : Atoms 𝓤) (W : Given
       is : StartIs ys (beginningOf (length ys) w m n ps) (channelStartOf (channelOf ys w) m n ps)
       is = start-is ys w m n ps
 
-  walk : (𝓣 : Tables 𝓤 H) → Triple 𝓤 (𝓣 .C #channel·begin) (Begin 𝓤 H A mem run) → Triple 𝓤 (𝓣 .C #channel·store) (Store 𝓤 H A mem run)
+  walk : (𝓣 : Tables 𝓤 H) → Triple 𝓤 (𝓣 .C #decisions·begin) (Begin 𝓤 H A mem run) → Triple 𝓤 (𝓣 .C #channel·store) (Store 𝓤 H A mem run)
       → ent 𝓤 (onEntry 𝓤 H A start′.signature (κ, (κ′, tt)) (q, (q′, tt)) a mach) (WpFn 𝓤 H (𝓣 .C) (𝓣 .Λ) fn (sliceVal (b, o) (length ys) ∷ Z.val w ∷ vint w8 m ∷ vint w8 n ∷ sliceVal (b′, o′) (length ps) ∷ []) Post)
   walk 𝓣 known-begin known-store =
       qed W ((‵ (flft κ q) ⊛ ‵ (flft κ′ q′) ⊛ ‵ ftrue) ∷ ‵ (owns (MutSlice (named 0) κ R ∷ Z.R ∷ u8 ∷ u8 ∷ ShrSlice (named 1) κ′ u16 ∷ []) a mach) ∷ []) ∵ enter ! (𝓣 .C) (𝓣 .Λ) fn (sliceVal (b, o) (length ys) ∷ Z.val w ∷ vint w8 m ∷ vint w8 n ∷ sliceVal (b′, o′) (length ps) ∷ []) _ $
@@ -177,13 +177,13 @@ module _ {M : Type 1} (𝓤 : URA M) (H : Heap 𝓤) (A : Atoms 𝓤) (W : Given
       keep ! (0 ∷ 1 ∷ 2 ∷ 3 ∷ 4 ∷ []) $ by ! (exits (d .begun) refl (O.begun-is d gd)))))))))))))))
 
 module _ {M : Type 1} (𝓤 : URA M) (H : Heap 𝓤) (A : Atoms 𝓤) (W : Given 𝓤 H A) (mem : Memory → SProp 𝓤) (run : Routine → Fun 𝓤) where
-  start-walks : (𝓣 : Tables 𝓤 H) → Triple 𝓤 (𝓣 .C #channel·begin) (Begin 𝓤 H A mem run) → Triple 𝓤 (𝓣 .C #channel·store) (Store 𝓤 H A mem run)
+  start-walks : (𝓣 : Tables 𝓤 H) → Triple 𝓤 (𝓣 .C #decisions·begin) (Begin 𝓤 H A mem run) → Triple 𝓤 (𝓣 .C #channel·store) (Store 𝓤 H A mem run)
       → Walks 𝓤 H A start′.ended stayed (WpFn 𝓤 H (𝓣 .C) (𝓣 .Λ) fn) (start′.clauses 𝓤 H A mem run)
   start-walks 𝓣 known-begin known-store = walked 𝓤 H A start′.ended stayed (start′.clauses 𝓤 H A mem run) (WpFn 𝓤 H (𝓣 .C) (𝓣 .Λ) fn) (λ κs. (slice-vals, (Z.vals, (uint-vals w8, (uint-vals w8, (slice-vals, tt)))))) (λ κs. (mut-slice-tells (named 0) (κs .0) R, (Z.tells, (uint-tells w8, (uint-tells w8, (shr-slice-tells (named 1) (κs .1 .0) u16, tt))))))
       (λ κs qs bounds a g are. via 𝓤 _ (fst∗ 𝓤 _ (emp 𝓤)) (walk 𝓤 H A W mem run (κs .0) (κs .1 .0) (qs .0) (qs .1 .0) (a .0 .ptr .0) (a .0 .ptr .1) (a .0 .name) (a .0 .now) (a .1 .0) (a .1 .1 .0) (a .1 .1 .1 .0) (a .1 .1 .1 .1 .0 .ptr .0) (a .1 .1 .1 .1 .0 .ptr .1) (a .1 .1 .1 .1 .0 .name) (a .1 .1 .1 .1 .0 .now) (are .0 .0 .1) (are .1 .0) (are .1 .1 .0 .1) (are .1 .1 .1 .0 .1) (are .1 .1 .1 .1 .0 .0 .1) 𝓣 known-begin known-store))
 
 start-meets : {M : Type 1} (𝓤 : URA M) (H : Heap 𝓤) (A : Atoms 𝓤) → Given 𝓤 H A → (mem : Memory → SProp 𝓤) (run : Routine → Fun 𝓤) (𝓣 : Tables 𝓤 H)
-    → Triple 𝓤 (𝓣 .C #channel·begin) (Begin 𝓤 H A mem run) → Triple 𝓤 (𝓣 .C #channel·store) (Store 𝓤 H A mem run)
+    → Triple 𝓤 (𝓣 .C #decisions·begin) (Begin 𝓤 H A mem run) → Triple 𝓤 (𝓣 .C #channel·store) (Store 𝓤 H A mem run)
     → Meets 𝓤 H A start′.signature (WpFn 𝓤 H (𝓣 .C) (𝓣 .Λ) code.function) (start′.spec 𝓤 H A mem run)
 start-meets 𝓤 H A W mem run 𝓣 known-begin known-store =
     walk-meets 𝓤 H A start′.ended stayed W (goes-slice 𝓤 H A W 2 0 tt (plain (λ _. R)), (goes-none 𝓤 H A W 2 (λ _. Z.R) yes (λ κs x f. refl), (goes-none 𝓤 H A W 2 (λ _. u8) yes (λ κs x f. refl), (goes-none 𝓤 H A W 2 (λ _. u8) yes (λ κs x f. refl), (goes-none-slice 𝓤 H A W 2 (1 ∷ []) tt (plain (λ _. u16)) yes, tt))))) (start′.clauses 𝓤 H A mem run)
@@ -196,5 +196,5 @@ start-spec 𝓤 H 𝓜 𝓖 𝓡 =
     entered 𝓤 H (tripleOf 𝓤 H (𝓖 .A) start′.signature (start′.spec 𝓤 H (𝓖 .A) (𝓜 .mem) (𝓡 .run)))
     (tables 𝓤 H 𝓜 𝓡 code.env .C) (tables 𝓤 H 𝓜 𝓡 code.env .Λ) #channel·start code.function (code.unfolded 𝓤 H 𝓜 𝓡)
     (start-meets 𝓤 H (𝓖 .A) (givenOf 𝓤 H 𝓜 𝓖) (𝓜 .mem) (𝓡 .run) (tablesOf 𝓤 H 𝓜 (tables 𝓤 H 𝓜 𝓡 code.env))
-    (cited 𝓤 H (Begin 𝓤 H (𝓖 .A) (𝓜 .mem) (𝓡 .run)) 𝓜 𝓡 code.env #channel·begin begin-def.routine code.calls-channel·begin (begin-thm.met 𝓤 H 𝓜 𝓖 𝓡))
+    (cited 𝓤 H (Begin 𝓤 H (𝓖 .A) (𝓜 .mem) (𝓡 .run)) 𝓜 𝓡 code.env #decisions·begin begin-def.routine code.calls-decisions·begin (begin-thm.met 𝓤 H 𝓜 𝓖 𝓡))
     (cited 𝓤 H (Store 𝓤 H (𝓖 .A) (𝓜 .mem) (𝓡 .run)) 𝓜 𝓡 code.env #channel·store store-def.routine code.calls-channel·store (store-thm.met 𝓤 H 𝓜 𝓖 𝓡)))

@@ -1,0 +1,5 @@
+-- Laws of what the calls decide, for their proofs.
+mod Loops
+mod Copies
+mod Arms
+mod Heard

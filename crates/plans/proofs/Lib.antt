@@ -1,0 +1,2 @@
+-- Laws of the definitions that the loops build up.
+pub mod Parts
