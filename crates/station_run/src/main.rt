@@ -3,138 +3,19 @@
 //
 // A line `start`, `offer`, `slot` or `slot_at` has the call's arguments (a slot's minislots as word and count in turn); the line after it the
 // answer; a line `record` the record after the call: m, n, the next group, H, N, eight RQ, eight Open marks, the index and the condition.
-use libc::STDOUT_FILENO;
+use printing::field;
+use printing::field8;
+use printing::field16;
+use printing::record_line;
+use printing::refused_line;
+use printing::text;
+use printing::turn_text;
 use rules::Condition;
 use rules::Counters;
 use rules::OfferAnswer;
 use rules::SlotAnswer;
 use rules::StartAnswer;
 use rules::Station;
-use rules::Turn;
-
-// ---- what is written
-
-fn text(bytes: &[u8]) {
-    io::write_all(STDOUT_FILENO, bytes);
-}
-
-fn field(n: u64) {
-    text(b",");
-    io::print_decimal(STDOUT_FILENO, n);
-}
-
-fn field16(n: u16) {
-    field(n as u64);
-}
-
-fn field8(n: u8) {
-    field(n as u64);
-}
-
-fn mark(opened: bool) {
-    if opened {
-        text(b",yes");
-    } else {
-        text(b",no");
-    }
-}
-
-fn resolution_text(r: [u16; 8]) {
-    field16(r[0]);
-    field16(r[1]);
-    field16(r[2]);
-    field16(r[3]);
-    field16(r[4]);
-    field16(r[5]);
-    field16(r[6]);
-    field16(r[7]);
-}
-
-fn opened_text(o: [bool; 8]) {
-    mark(o[0]);
-    mark(o[1]);
-    mark(o[2]);
-    mark(o[3]);
-    mark(o[4]);
-    mark(o[5]);
-    mark(o[6]);
-    mark(o[7]);
-}
-
-fn three(a: u8, b: u16, c: u8) {
-    field8(a);
-    field16(b);
-    field8(c);
-}
-
-fn condition_text(k: Condition) {
-    match k {
-        Condition::Free => text(b",free"),
-        Condition::Fresh { total } => {
-            text(b",fresh");
-            field8(total);
-        }
-        Condition::Asked {
-            group,
-            minislot,
-            total,
-        } => {
-            text(b",asked");
-            three(group, minislot as u16, total);
-        }
-        Condition::Resolving {
-            group,
-            place,
-            total,
-        } => {
-            text(b",resolving");
-            three(group, place, total);
-        }
-        Condition::Urgent { place } => {
-            text(b",urgent");
-            field16(place);
-        }
-        Condition::Long { first, left, total } => {
-            text(b",long");
-            field16(first);
-            field8(left);
-            field8(total);
-        }
-    }
-}
-
-fn record_line(s: Station) {
-    let c = s.counters;
-    let k = s.condition;
-    let resolution = c.resolution;
-    let opened = c.opened;
-    text(b"record");
-    field8(c.minislots);
-    field8(c.groups);
-    field8(c.next);
-    field16(c.urgent);
-    field16(c.long);
-    resolution_text(resolution);
-    opened_text(opened);
-    field16(s.index);
-    condition_text(k);
-    text(b"\n");
-}
-
-fn refused_line(number: u8) {
-    text(b"refused");
-    field8(number);
-    text(b"\n");
-}
-
-fn turn_text(t: Turn) {
-    match t {
-        Turn::Urgent => text(b",urgent"),
-        Turn::Long => text(b",long"),
-        Turn::Resolve => text(b",resolve"),
-        Turn::Open => text(b",open"),
-    }
-}
 
 // ---- the calls
 

@@ -1,0 +1,50 @@
+// Times one slot of a channel under load, the test of its table and the step that is left, each as a difference of two runs of the static library `bench`.
+// With arguments it makes one run and prints its digest, for counting instructions: `load ROUNDS SLOTS PICKS CHECKS` or `check KIND GROUPS TIMES`.
+use std::time::Instant;
+
+unsafe extern "C" {
+    fn bench_load(rounds: u64, slots: u64, picks: u64, checks: u64) -> u64;
+    fn bench_check(kind: u64, groups: u8, times: u64) -> u64;
+}
+
+fn load(rounds: u64, slots: u64, picks: u64, checks: u64) -> u64 {
+    // any numbers will do: the function has no `requires`
+    unsafe { bench_load(rounds, slots, picks, checks) }
+}
+
+fn check(kind: u64, groups: u8, times: u64) -> u64 {
+    // the same
+    unsafe { bench_check(kind, groups, times) }
+}
+
+/// Nanoseconds of one more of what `run` repeats in each round: the least of seven differences.
+fn cost(rounds: u64, again: u64, run: impl Fn(u64) -> u64) -> f64 {
+    let mut least = f64::INFINITY;
+    for _ in 0..7 {
+        let start = Instant::now();
+        let few = run(1);
+        let middle = Instant::now();
+        let many = run(1 + again);
+        let end = Instant::now();
+        assert!(few != many);
+        let ns = (end - middle).as_nanos() as f64 - (middle - start).as_nanos() as f64;
+        least = least.min(ns / (rounds * again) as f64);
+    }
+    least
+}
+
+fn main() {
+    let words: Vec<String> = std::env::args().skip(1).collect();
+    let numbers: Vec<u64> = words.iter().skip(1).map(|w| w.parse().expect("a number")).collect();
+    match (words.first().map(String::as_str), numbers.as_slice()) {
+        (Some("load"), &[rounds, slots, picks, checks]) => println!("{}", load(rounds, slots, picks, checks)),
+        (Some("check"), &[kind, groups, times]) => println!("{}", check(kind, groups as u8, times)),
+        _ => {
+            let (rounds, again) = (500, 20);
+            let picks = cost(rounds, again, |k| load(rounds, 0, k, 0));
+            let slot = cost(rounds, again, |k| load(rounds, k, 0, 0)) - picks;
+            let test = cost(rounds, again, |k| load(rounds, 0, 0, k));
+            println!("slot {slot:.0} ns, of which test {test:.0} ns, step {:.0} ns", slot - test);
+        }
+    }
+}

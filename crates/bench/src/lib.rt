@@ -1,0 +1,142 @@
+// What the benchmark calls: channels of 64 stations under load, with calls repeated on the state as it is, so that the cost of one call is a difference
+// of two runs; and the test of a sound table on tables of each kind.
+mod tables;
+
+use arrivals::ARRIVES;
+use arrivals::draw;
+use arrivals::picks_of;
+use arrivals::size;
+use held::Channel;
+use rules::Answer;
+use rules::Row;
+use rules::Station;
+use soundness::sound;
+use tables::blank;
+use tables::first_64;
+use tables::table_of;
+
+// A sum that can't pass the type's limit.
+fn plus(d: u64, x: u64) -> u64 {
+    d % 1000000007 * 31 + x % 1000000007
+}
+
+fn digest_of(answer: Answer) -> u64 {
+    match answer {
+        Answer::Refused(number) => number as u64,
+        Answer::Taken(total) => total as u64 + 100,
+        Answer::Went {
+            turn: _,
+            senders,
+            index,
+            segment,
+            delivered,
+        } => index as u64 * 16 + senders as u64 + segment as u64 + delivered as u64,
+    }
+}
+
+// ---- a channel under load
+
+// 64 stations, three minislots, one group.
+fn started() -> Channel {
+    let mut indexes = [0u16; 64];
+    let mut k: usize = 0;
+    while k < 64 {
+        indexes[k] = (k % 64) as u16 * 14;
+        k += 1;
+    }
+    let r = held::start(blank(64), 3, 1, &indexes);
+    r.channel
+}
+
+// One station in eight is offered a message; most are not free.
+fn arrived(c: Channel, s: u64) -> Channel {
+    let mut c = c;
+    let mut k: usize = 0;
+    while k < 64 {
+        let station = k as u64;
+        if draw(s, station, ARRIVES, 8) == 0 {
+            let r = held::offer(c, (k % 64) as u16 * 14, size(s, station));
+            c = r.channel;
+        }
+        k += 1;
+    }
+    c
+}
+
+// The same slot again, with other picks; what it leaves is thrown away.
+fn slots_again(c: Channel, times: u64) -> u64 {
+    let mut d: u64 = 0;
+    let mut i: u64 = 0;
+    while i < times {
+        let picks = picks_of(i, 3);
+        let r = held::slot(c, &picks[0..64]);
+        let answer = r.answer;
+        d = plus(d, digest_of(answer));
+        i += 1;
+    }
+    d
+}
+
+// The picks of a slot alone, to be taken off what a slot again costs.
+fn picks_again(times: u64) -> u64 {
+    let mut d: u64 = 0;
+    let mut i: u64 = 0;
+    while i < times {
+        let picks = picks_of(i, 3);
+        let first = picks[0] as u64;
+        d = plus(d, first);
+        i += 1;
+    }
+    d
+}
+
+// The test of a sound table again.
+fn checks_again(stations: [Station; 64], wire: [Row; 8], times: u64) -> u64 {
+    let mut d: u64 = 0;
+    let mut i: u64 = 0;
+    while i < times {
+        let yes = sound(stations, 64, wire);
+        d = plus(d, if yes { 1 } else { 2 });
+        i += 1;
+    }
+    d
+}
+
+fn all_again(c: Channel, slots: u64, picks: u64, checks: u64) -> u64 {
+    let stations = c.stations;
+    let wire = c.wire;
+    let table = first_64(stations);
+    let d = plus(slots_again(c, slots), picks_again(picks));
+    plus(d, checks_again(table, wire, checks))
+}
+
+// One round of a channel under load: arrivals, calls again, a slot.
+fn round(c: Channel, s: u64) -> Channel {
+    let picks = picks_of(s, 3);
+    let r = held::slot(arrived(c, s), &picks[0..64]);
+    r.channel
+}
+
+// So many rounds, with so many slots, picks and tests again in each.
+#[no_mangle]
+pub extern "C" fn bench_load(rounds: u64, slots: u64, picks: u64, checks: u64) -> u64 {
+    let mut c = started();
+    let mut d: u64 = 0;
+    let mut s: u64 = 0;
+    while s < rounds {
+        c = round(c, s);
+        d = plus(d, all_again(c, slots, picks, checks));
+        s += 1;
+    }
+    d
+}
+
+// The test of a table of one kind, so many times.
+#[no_mangle]
+pub extern "C" fn bench_check(kind: u64, groups: u8, times: u64) -> u64 {
+    let c = table_of(kind, groups);
+    let stations = c.stations;
+    let wire = c.wire;
+    let table = first_64(stations);
+    checks_again(table, wire, times)
+}

@@ -1,0 +1,77 @@
+-- `rehearsal::started` is safe and ends: a place is one of the 65.
+-- Assumes nothing.
+use mathlib.Core.Path.{_≡_}
+use Prim.Native.Nat.{_≤_, _-_}
+use lib.ListN.{length}
+use borrow.Author.Needs.{needs}
+use Rattle.rehearsal.proofs.started.Statement.{statement}
+use Rattle.rehearsal.proofs.started.Tie as tie
+
+abbrev Inv-loop : tie.InvT-loop
+Inv-loop count m n indexes₀ k₀ indexes k = (length indexes ≡ 65) × (k ≤ 65)
+
+abbrev μ-loop : tie.MeasureT-loop
+μ-loop count m n indexes₀ k₀ indexes k = 65 - k
+
+loop-holds : tie.Need-loop-holds Inv-loop μ-loop
+loop-holds c = search needs
+
+index-of-requires : tie.Need-index-of-requires Inv-loop μ-loop
+index-of-requires c κs = search needs
+
+mul-indexes : tie.Need-mul-indexes Inv-loop μ-loop
+mul-indexes c = search needs
+
+array-write-indexes : tie.Need-array-write-indexes Inv-loop μ-loop
+array-write-indexes c = search needs
+
+add-k : tie.Need-add-k Inv-loop μ-loop
+add-k c = search needs
+
+loop-less : tie.Need-loop-less Inv-loop μ-loop
+loop-less c = search needs
+
+loop-again : tie.Need-loop-again Inv-loop μ-loop
+loop-again c = search needs
+
+blank-station-requires : tie.Need-blank-station-requires Inv-loop μ-loop
+blank-station-requires c κs = search needs
+
+least-requires : tie.Need-least-requires Inv-loop μ-loop
+least-requires c κs = search needs
+
+sub-start : tie.Need-sub-start Inv-loop μ-loop
+sub-start c = search needs
+
+part-start-start : tie.Need-part-start-start Inv-loop μ-loop
+part-start-start c = search needs
+
+part-start-end : tie.Need-part-start-end Inv-loop μ-loop
+part-start-end c = search needs
+
+start-requires : tie.Need-start-requires Inv-loop μ-loop
+start-requires c κs = search needs
+
+returns : tie.Need-returns Inv-loop μ-loop
+returns c = search needs
+
+pub started-spec : {M : Type 1} → statement M
+started-spec =
+    tie.close
+    (tie.spec
+    Inv-loop
+    μ-loop
+    loop-holds
+    index-of-requires
+    mul-indexes
+    array-write-indexes
+    add-k
+    loop-less
+    loop-again
+    blank-station-requires
+    least-requires
+    sub-start
+    part-start-start
+    part-start-end
+    start-requires
+    returns)

@@ -1,0 +1,293 @@
+#!/usr/bin/env python3
+"""What crates/channel_run must write, made from the paper's sentences and not from the Rattle programs.
+
+A table is a list of boxes (station.py) beside a wire. It is sound if what the paper says of it holds place by place. A slot is each box's own slot on
+the row that the wire has; the requests that the boxes answer make the new row.
+"""
+import copy
+
+from station import WORDS, Refusal, blank, fits, nothing, offer, put, put_record, read, slot
+
+
+# ---- sound tables
+
+def places_of(boxes, kind):
+    """The places that each box of a kind stands at."""
+    found = []
+    for box in boxes:
+        if box["is"][0] == kind == "urgent":
+            found.append(box["is"][1])
+        if box["is"][0] == kind == "long":
+            found += range(box["is"][1], box["is"][1] + box["is"][2])
+    return sorted(found)
+
+
+def minislot_of(boxes, g, j):
+    word = count = 0
+    for box in boxes:
+        if box["is"][0] == "asked" and box["is"][1:3] == (g, j):
+            word |= WORDS[box["index"]]
+            count |= box["is"][3]
+    return (word, count)
+
+
+def sound(boxes, wire):
+    if len({box["index"] for box in boxes}) < len(boxes) or not all(fits(box) for box in boxes):
+        return False
+    first = boxes[0]
+    if any(box[name] != first[name] for box in boxes for name in ("m", "n", "next", "H", "N", "RQ", "Open")):
+        return False
+    if places_of(boxes, "urgent") != list(range(1, first["H"] + 1)) or places_of(boxes, "long") != list(range(1, first["N"] + 1)):
+        return False
+    for g in range(1, first["n"] + 1):
+        there = [box["is"][2] for box in boxes if box["is"][0] == "resolving" and box["is"][1] == g]
+        if any(there.count(place) < 2 for place in range(1, first["RQ"][g - 1] + 1)):
+            return False
+    return all(wire[g - 1][j - 1] == minislot_of(boxes, g, j) for g in range(1, 9) for j in range(1, 9))
+
+
+# ---- the calls
+
+class Channel:
+    def __init__(self, boxes, wire):
+        self.boxes, self.wire = boxes, wire
+
+    def with_box(self, k, box):
+        other = copy.deepcopy(self)
+        other.boxes[k] = box
+        return other
+
+    def with_minislot(self, g, j, word, count):
+        other = copy.deepcopy(self)
+        other.wire[g][j] = (word, count)
+        return other
+
+    def with_count(self, count):
+        """A table of another number of records: those that it has first, then unused ones."""
+        return Channel(copy.deepcopy(self.boxes[:count]) + [nothing() for _ in range(count - len(self.boxes))], copy.deepcopy(self.wire))
+
+    def check(self):
+        if not 1 <= len(self.boxes) <= 64:
+            raise Refusal(14)
+        if not sound(self.boxes, self.wire):
+            raise Refusal(18)
+
+
+def silent():
+    return [[(0, 0)] * 8 for _ in range(8)]
+
+
+def channel_start(ch, m, n, indexes):
+    if not (2 <= m <= 8 and 1 <= n <= 8):
+        raise Refusal(5)
+    if not 1 <= len(ch.boxes) <= 64 or len(indexes) != len(ch.boxes):
+        raise Refusal(14)
+    if any(index > 923 for index in indexes):
+        raise Refusal(8)
+    if len(set(indexes)) < len(indexes):
+        raise Refusal(15)
+    return Channel([blank(m, n, index) for index in indexes], silent())
+
+
+def channel_offer(ch, index, size):
+    ch.check()
+    for k, box in enumerate(ch.boxes):
+        if box["index"] == index:
+            total, after = offer(box, size)
+            return total, ch.with_box(k, after)
+    raise Refusal(16)
+
+
+def channel_slot(ch, picks):
+    ch.check()
+    first = ch.boxes[0]
+    if len(picks) != len(ch.boxes):
+        raise Refusal(17)
+    if any(not 1 <= pick <= first["m"] for pick in picks):
+        raise Refusal(11)
+    g = first["next"]
+    row = ch.wire[g - 1][: first["m"]]
+    results = [slot(box, row, pick) for box, pick in zip(ch.boxes, picks)]
+    after = Channel([box for _, box in results], copy.deepcopy(ch.wire))
+    after.wire[g - 1] = [minislot_of(after.boxes, g, j) for j in range(1, 9)]
+    for (answer, box), pick in zip(results, picks):
+        assert answer[1] in (0, pick)
+    sent = [(box["index"], answer[2]) for answer, box in results if answer[2]]
+    turn = results[0][0][0]
+    heard = [read(word, count) for word, count in row]
+    weight = sum({"empty": 0, "single": 1, "collide": 2}[what[0]] for what in heard)
+    delivered = sum(what[0] == "single" and what[2] == 1 for what in heard) if first["Open"][g - 1] and weight == 1 else 0
+    if turn in ("urgent", "long"):
+        delivered += len(sent)
+    lone = sent[0] if len(sent) == 1 else (0, 0)
+    return (turn, len(sent), *lone, delivered), after
+
+
+# ---- what is written
+
+def put_table(ch):
+    put("table", len(ch.boxes))
+    for box in ch.boxes:
+        put_record(box)
+    for g, row in enumerate(ch.wire, start=1):
+        if row != [(0, 0)] * 8:
+            put("row", g, *[x for minislot in row for x in minislot])
+
+
+def begun(ch, m, n, indexes):
+    put("start", m, n, len(indexes))
+    try:
+        ch = channel_start(ch, m, n, indexes)
+        put("ready")
+    except Refusal as refused:
+        put("refused", refused)
+    put_table(ch)
+    return ch
+
+
+def offered(ch, index, size):
+    put("offer", index, size)
+    try:
+        total, ch = channel_offer(ch, index, size)
+        put("taken", total)
+    except Refusal as refused:
+        put("refused", refused)
+    put_table(ch)
+    return ch
+
+
+def slotted(ch, *picks):
+    put("slot", len(picks))
+    try:
+        answer, ch = channel_slot(ch, picks)
+        put("went", *answer)
+    except Refusal as refused:
+        put("refused", refused)
+    put_table(ch)
+    return ch
+
+
+def slot6(ch, p, q, r):
+    return slotted(ch, p, q, r, p, q, r)
+
+
+# ---- tables that calls are tried on
+
+def box_of(index, condition, H=1, N=3, RQ1=1, RQ2=0, m=2, nxt=1, open1=True):
+    box = blank(m, 2, index)
+    box.update(next=nxt, H=H, N=N, RQ=[RQ1, RQ2] + [0] * 6, Open=[open1] + [True] * 7)
+    box["is"] = condition
+    return box
+
+
+def base():
+    boxes = [
+        box_of(100, ("urgent", 1)), box_of(200, ("long", 1, 3, 3)), box_of(300, ("resolving", 1, 1, 1)),
+        box_of(400, ("resolving", 1, 1, 2)), box_of(500, ("asked", 2, 1, 5)), box_of(600, ("free",)),
+    ]
+    wire = silent()
+    wire[1][0] = (WORDS[500], 5)
+    return Channel(boxes, wire)
+
+
+def upward(first, count):
+    return list(range(first, first + count))
+
+
+EMPTY_TABLE = Channel([], silent())
+
+
+def starts_refused():
+    ch = base()
+    put_table(ch)
+    for m, n in ((1, 1), (9, 1), (2, 0), (2, 9)):
+        begun(ch, m, n, upward(900, 65))
+    begun(ch, 2, 1, upward(921, 5))
+    begun(ch, 2, 1, upward(921, 7))
+    begun(ch.with_count(0), 2, 1, [])
+    begun(ch, 2, 1, upward(919, 6))
+    begun(ch, 2, 1, [1, 2, 3, 4, 2, 5])
+    begun(ch, 2, 1, [1, 2, 3, 924, 2, 5])
+
+
+def starts():
+    begun(base(), 3, 2, upward(918, 6))
+    begun(EMPTY_TABLE.with_count(64), 8, 8, upward(100, 64))
+    begun(EMPTY_TABLE.with_count(65), 8, 8, upward(100, 65))
+    begun(EMPTY_TABLE.with_count(65), 8, 8, upward(100, 64))
+    begun(EMPTY_TABLE.with_count(1), 2, 1, [923])
+
+
+def offers():
+    ch = base()
+    offered(ch, 500, 0)
+    offered(ch, 50, 49)
+    offered(ch, 100, 0)
+    offered(ch, 600, 0)
+    offered(ch, 600, 12241)
+    offered(offered(ch, 600, 12240), 600, 1)
+    offered(ch.with_count(0), 50, 0)
+    offered(ch.with_count(65), 50, 0)
+
+
+def slots_refused():
+    ch = base()
+    slotted(ch)
+    slotted(ch, 0, 1, 1, 1, 1)
+    slotted(ch, 1, 1, 1, 1, 1, 1, 1)
+    slot6(ch, 1, 2, 3)
+    slot6(ch, 0, 1, 1)
+    slotted(ch.with_count(0))
+    slotted(ch.with_count(65), 0, 1, 1, 1, 1)
+
+
+def unsound(ch):
+    put_table(ch)
+    offered(ch, 50, 0)
+    slotted(ch)
+
+
+def unsound_tables():
+    ch, free = base(), ("free",)
+    for box in (
+        box_of(200, free), box_of(924, free), box_of(600, free, H=2), box_of(600, free, N=4), box_of(600, free, RQ1=2), box_of(600, free, RQ2=1),
+        box_of(600, free, m=3), box_of(600, free, nxt=2), box_of(600, free, open1=False),
+    ):
+        unsound(ch.with_box(5, box))
+    for k, index, condition in (
+        (0, 100, free), (5, 600, ("urgent", 1)),
+        (5, 600, ("long", 3, 1, 2)), (1, 200, ("long", 1, 2, 3)), (1, 200, ("long", 2, 2, 3)),
+        (3, 400, free), (3, 400, ("resolving", 2, 1, 1)),
+        (4, 500, ("asked", 1, 1, 5)), (4, 500, ("asked", 2, 2, 5)), (4, 500, ("asked", 2, 1, 4)), (5, 600, ("asked", 2, 1, 5)),
+    ):
+        unsound(ch.with_box(k, box_of(index, condition)))
+    for minislot in ((1, 0, 0, 0), (1, 0, 63, 5), (0, 1, 63, 1), (0, 1, 0, 1), (1, 2, 63, 1), (2, 0, 63, 1), (7, 7, 65535, 255)):
+        unsound(ch.with_minislot(*minislot))
+
+
+def served():
+    ch = slot6(base(), 1, 2, 1)
+    ch = slot6(ch, 2, 1, 1)
+    ch = offered(ch, 600, 48)
+    for picks in ((1, 1, 2), (2, 2, 1), (1, 2, 2), (1, 1, 1), (2, 1, 2), (1, 2, 1), (2, 1, 1), (1, 1, 2), (1, 1, 2)):
+        ch = slot6(ch, *picks)
+
+
+def from_the_start():
+    ch = begun(EMPTY_TABLE.with_count(2), 2, 1, [7, 8])
+    ch = offered(ch, 7, 1)
+    ch = slotted(ch, 1, 1)
+    ch = slotted(ch, 1, 1)
+    ch = offered(ch, 7, 1)
+    ch = offered(ch, 8, 97)
+    for picks in ((2, 2), (1, 2), (1, 1), (1, 1), (1, 1), (1, 1), (1, 1)):
+        ch = slotted(ch, *picks)
+
+
+starts_refused()
+starts()
+offers()
+slots_refused()
+unsound_tables()
+served()
+from_the_start()

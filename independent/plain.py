@@ -1,0 +1,141 @@
+"""The plain channel of the paper, from its sentences and not from the Rattle programs: queues of messages, fed only a start and each call's arguments.
+
+A message is a dict with its box, its slots and how many of them were delivered. Conditions, counters and the wire are read off the queues.
+"""
+WORDS = [w for w in range(4096) if format(w, "b").count("1") == 6]
+
+
+class Refusal(Exception):
+    """The number of a refusal."""
+
+
+class Plain:
+    def __init__(self, boxes, m, n, indexes):
+        if not (2 <= m <= 8 and 1 <= n <= 8):
+            raise Refusal(5)
+        if not 1 <= boxes <= 64 or len(indexes) != boxes:
+            raise Refusal(14)
+        if any(i > 923 for i in indexes):
+            raise Refusal(8)
+        if len(set(indexes)) != boxes:
+            raise Refusal(15)
+        self.m, self.n, self.indexes = m, n, list(indexes)
+        self.fresh, self.urgent, self.long = [], [], []
+        self.group = 1
+        self.open = {g: True for g in range(1, n + 1)}
+        self.asking = {g: {j: [] for j in range(1, m + 1)} for g in range(1, n + 1)}
+        self.resolution = {g: [] for g in range(1, n + 1)}
+        self.history = []
+        self.mine = [None] * boxes  # the message of each box that is not all delivered
+
+    def deliver(self, message, segment):
+        self.history.append((message, segment))
+        message["delivered"] += 1
+        if message["delivered"] == message["slots"]:
+            self.mine[message["box"]] = None
+
+    def offer(self, index, size):
+        if index not in self.indexes:
+            raise Refusal(16)
+        box = self.indexes.index(index)
+        if self.mine[box] is not None:
+            raise Refusal(9)
+        if not 1 <= size <= 12240:
+            raise Refusal(10)
+        message = {"box": box, "slots": (size + 47) // 48, "delivered": 0}
+        self.fresh.append(message)
+        self.mine[box] = message
+        return message["slots"]
+
+    def slot(self, picks):
+        """The turn, the data senders, a lone one's index and segment, the slots delivered."""
+        if len(picks) != len(self.indexes):
+            raise Refusal(17)
+        if any(not 1 <= p <= self.m for p in picks):
+            raise Refusal(11)
+        before, g = len(self.history), self.group
+        row, self.asking[g] = self.asking[g], {j: [] for j in range(1, self.m + 1)}
+        weight = sum(min(len(row[j]), 2) for j in row)
+        H, N, RQ = list(self.urgent), list(self.long), list(self.resolution[g])
+        at_once = []
+        for j in range(1, self.m + 1):
+            if len(row[j]) == 1:
+                message = row[j][0]
+                if message["slots"] > 1:
+                    N += [(message, k) for k in range(1, message["slots"] + 1)]
+                elif self.open[g] and weight == 1:
+                    at_once.append(message)
+                else:
+                    H.append(message)
+            elif row[j]:
+                RQ.append(row[j])
+        if len(H) > 4095 or len(N) > 65535 or len(RQ) > 4095:
+            self.asking[g] = row
+            raise Refusal(7)
+        self.urgent, self.long, self.resolution[g] = H, N, RQ
+        for message in at_once:
+            self.deliver(message, 1)
+        turn = "urgent" if H else "long" if N else "resolve" if RQ else "open"
+        self.open[g] = turn == "open"
+        if RQ:
+            ask = RQ.pop(0)
+        else:
+            ask, self.fresh = self.fresh, []
+        for message in ask:
+            self.asking[g][picks[message["box"]]].append(message)
+        sent = []
+        if turn == "urgent":
+            sent = [(H.pop(0), 1)]
+        elif turn == "long":
+            sent = [N.pop(0)]
+        for message, segment in sent:
+            self.deliver(message, segment)
+        if turn == "open":
+            sent = [(message, 1) for message in ask if message["slots"] == 1]
+        self.group = g % self.n + 1
+        lone = (self.indexes[sent[0][0]["box"]], sent[0][1]) if len(sent) == 1 else (0, 0)
+        return (turn, len(sent)) + lone + (len(self.history) - before,)
+
+    # ---- what the boxes and the wire must show of it
+
+    def counters(self):
+        groups = range(1, 9)
+        lengths = [len(self.resolution.get(g, [])) for g in groups]
+        return [self.m, self.n, self.group, len(self.urgent), len(self.long)] + lengths + [int(self.open.get(g, True)) for g in groups]
+
+    def conditions(self):
+        """The condition of each box: where its message stands in the queues; free if none waits."""
+        found = [("free",)] * len(self.indexes)
+
+        def stands(message, *condition):
+            found[message["box"]] = condition
+
+        for message in self.fresh:
+            stands(message, "fresh", message["slots"])
+        for place, message in enumerate(self.urgent, start=1):
+            stands(message, "urgent", place)
+        for place, (message, _) in reversed(list(enumerate(self.long, start=1))):
+            stands(message, "long", place, message["slots"] - message["delivered"], message["slots"])
+        for g in range(1, self.n + 1):
+            for j, messages in self.asking[g].items():
+                for message in messages:
+                    stands(message, "asked", g, j, message["slots"])
+            for place, messages in enumerate(self.resolution[g], start=1):
+                for message in messages:
+                    stands(message, "resolving", g, place, message["slots"])
+        return found
+
+    def wire(self):
+        """Eight rows of eight minislots: word and count, each the OR over the messages asking there."""
+        rows = [[(0, 0)] * 8 for _ in range(8)]
+        for g, minislots in self.asking.items():
+            for j, messages in minislots.items():
+                word = count = 0
+                for message in messages:
+                    word |= WORDS[self.indexes[message["box"]]]
+                    count |= message["slots"]
+                rows[g - 1][j - 1] = (word, count)
+        return rows
+
+    def waiting(self):
+        return sum(m["slots"] - m["delivered"] for m in self.mine if m is not None)
