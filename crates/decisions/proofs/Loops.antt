@@ -10,7 +10,7 @@ use lib.ListN.{length, getD, drop}
 use lib.Seq.{drop-cons, drop-length}
 use borrow.Author.Tests.{eq-eqb, ne-eqb}
 use Rattle.rules.specs.declared.Station.{Station}
-use Rattle.rules.specs.Lists.{each, eachPair}
+use Rattle.rules.specs.Lists.{each}
 use Rattle.rules.specs.ChannelCalls.{positionOf}
 use Rattle.plans.specs.Planning.{absent}
 
@@ -26,19 +26,6 @@ module _ {A : Type 0} (test : A → Bool) (d : A) where
 
 pub each-ends : {A : Type 0} (test : A → Bool) (l : List A) (i : ℕ) (b : Bool) → i ≡ length l → b ≡ each test (drop i l) → true ≡ b
 each-ends {A = A} test l i b q e = sym (e ∙ ap (λ (k : ℕ). each test (drop k l)) q ∙ ap (each test) (drop-length l))
-
-module _ {A : Type 0} (test : A → A → Bool) (d : A) where
-  pair-step : (l : List A) (i : ℕ) → i < length l → eachPair test (drop i l) ≡ (each (test (getD l i d)) (drop (suc i) l) && eachPair test (drop (suc i) l))
-  pair-step l i h = ap (eachPair test) (drop-cons l i d h)
-
-  pub pair-goes : (l : List A) (i : ℕ) (b : Bool) → i < length l → b ≡ eachPair test (drop i l) → true ≡ each (test (getD l i d)) (drop (i + 1) l) → b ≡ eachPair test (drop (i + 1) l)
-  pair-goes l i b h e t = e ∙ pair-step l i h ∙ rw (← (add-one i), ← t)
-
-  pub pair-fails : (l : List A) (i : ℕ) (b : Bool) → i < length l → b ≡ eachPair test (drop i l) → false ≡ each (test (getD l i d)) (drop (i + 1) l) → false ≡ b
-  pair-fails l i b h e t = sym (e ∙ pair-step l i h ∙ rw (← (add-one i), ← t))
-
-pub pair-ends : {A : Type 0} (test : A → A → Bool) (l : List A) (i : ℕ) (b : Bool) → i ≡ length l → b ≡ eachPair test (drop i l) → true ≡ b
-pair-ends test l i b q e = sym (e ∙ ap (λ (k : ℕ). eachPair test (drop k l)) q ∙ ap (eachPair test) (drop-length l))
 
 -- the position of an index: i, and its position in what is left
 module _ (index : ℕ) (l : List Station) (i : ℕ) (n : ℕ) (here : n ≡ i + positionOf index (drop i l)) where

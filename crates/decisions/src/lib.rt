@@ -3,6 +3,7 @@
 mod hearing;
 mod starting;
 
+use columns::distinct;
 use conditions::limits::in_ranges;
 use counters::immediate_success;
 use counters::opened_of;
@@ -31,7 +32,6 @@ use rules::Station;
 use rules::Turn;
 use soundness::sound;
 use starting::all_indexes;
-use starting::distinct;
 use starting::new_table;
 ghost use mathlib.Core.Path.{_≡_};
 ghost use mathlib.Core.Bool.{true};

@@ -1,12 +1,11 @@
-// A start's tests on its indexes, and the records of a new table.
+// A start's test of its indexes, and the records of a new table.
 use crate::Loaded;
 use rules::Condition;
 use rules::Station;
 ghost use mathlib.Core.Path.{_≡_};
-ghost use Prim.Native.Nat.{_≤_, _<_};
-ghost use lib.ListN.{length, drop};
-ghost use Rattle.rules.specs.Lists.{each, eachPair};
-ghost use Rattle.rules.specs.Soundness.{differ};
+ghost use Prim.Native.Nat.{_≤_};
+ghost use lib.ListN.{length};
+ghost use Rattle.rules.specs.Lists.{each};
 ghost use Rattle.rules.specs.ChannelCalls.{isIndex, newStations};
 ghost use Rattle.decisions.specs.Loading.{loadOf};
 
@@ -21,39 +20,6 @@ pub fn all_indexes(indexes: &[u16]) -> bool
             return false;
         }
         i += 1;
-    }
-    true
-}
-
-// Whether every index after the first k differs from x.
-fn differs_from(x: u16, indexes: &[u16], k: usize) -> bool
-    requires { ⌜ k ≤ length (now indexes) ⌝ }
-    ensures { λ r. ⌜ r ≡ each (differ x) (drop k (now (indexes .entry))) ⌝ }
-{
-    let n = indexes.len();
-    let mut i = k;
-    while i < n {
-        if indexes[i] == x {
-            return false;
-        }
-        i += 1;
-    }
-    true
-}
-
-// Whether no index comes twice.
-pub fn distinct(indexes: &[u16]) -> bool
-    ensures { λ r. ⌜ r ≡ eachPair differ (now (indexes .entry)) ⌝ }
-{
-    let n = indexes.len();
-    let mut i: usize = 0;
-    while i < n {
-        let x = indexes[i];
-        if differs_from(x, indexes, i + 1) {
-            i += 1;
-        } else {
-            return false;
-        }
     }
     true
 }
