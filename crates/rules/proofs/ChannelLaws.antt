@@ -211,7 +211,7 @@ module _ (stations : List Station) (wire : List Row) (some : 1 ≤ length statio
       ∙ take-row (index (startMade stations)) (length stations) (λ j k. askedSender (tableCounters stations .next) j k (getD stations k noStation .condition)) (tableCounters stations .minislots) 8 1 (limits .minislots .1)
 
   -- the feedback of it
-  abbrev askedHere : List Feedback
+  abbrev pub askedHere : List Feedback
   askedHere = askedRow (index (startMade stations)) (length stations) (λ k. getD stations k noStation .condition) (tableCounters stations .next) (tableCounters stations .minislots) 1
 
   left-reads : readings (wordsOf leftHere) (countsOf leftHere) ≡ map Heard askedHere
@@ -233,7 +233,7 @@ module _ (stations : List Station) (wire : List Row) (some : 1 ≤ length statio
   abbrev pub rowHere : List Feedback
   rowHere = feedbacks (readings (wordsOf (heardRow ch)) (countsOf (heardRow ch)))
 
-  row-asked : rowHere ≡ askedHere
+  pub row-asked : rowHere ≡ askedHere
   row-asked = rw heard-left left-feedbacks
 
   -- each station hears itself: 12 never comes

@@ -50,3 +50,4 @@ pub mod EdgesHold
 pub mod StationLaws
 pub mod SoundnessLaws
 pub mod ChannelLaws
+pub mod NeverSeven

@@ -58,13 +58,15 @@ up-inside : (N f l : ℕ) → 1 ≤ f → f + l ≤ N + 1 → Inside N (upFrom f
 up-inside N f zero lo hi = tt
 up-inside N f (suc l) lo hi = (lo, omega arith, up-inside N (suc f) l (omega arith) (omega arith))
 
-long-parts : (c : Counters) (f l t : ℕ) → conditionWithin c (Long f l t) ≡ true → (1 ≤ f) × (1 ≤ l) × (f + l ≤ c .long + 1)
+pub long-parts : (c : Counters) (f l t : ℕ) → conditionWithin c (Long f l t) ≡ true → (1 ≤ f) × (1 ≤ l) × (f + l ≤ c .long + 1) × (l ≤ 255)
 unfolding conditionWithin
 long-parts c f l t e =
     let (x, y) = and-both (between 2 t 255 && between 1 l t && leb 1 f) (leb (f + l) (c .long + 1)) e in
     let (u, v) = and-both (between 2 t 255 && between 1 l t) (leb 1 f) x in
     let (p, q) = and-both (between 2 t 255) (between 1 l t) u in
-    (leb-true 1 f v, between-bounds 1 l t q .0, leb-true (f + l) (c .long + 1) y)
+    let (_, few) = between-bounds 2 t 255 p in
+    let (some, most) = between-bounds 1 l t q in
+    (leb-true 1 f v, some, leb-true (f + l) (c .long + 1) y, omega arith)
 
 long-inside : (c : Counters) (k : Condition) → conditionWithin c k ≡ true → Inside (c .long) (gatherOf spread (longStretch k))
 long-inside c Free e = tt
@@ -72,7 +74,7 @@ long-inside c (Fresh t) e = tt
 long-inside c (Asked g j t) e = tt
 long-inside c (Resolving g i t) e = tt
 long-inside c (Urgent i) e = tt
-long-inside c (Long f l t) e = let (a, b, d) = long-parts c f l t e in inside-append (c .long) (upFrom f l) [] (up-inside (c .long) f l a d) tt
+long-inside c (Long f l t) e = let (a, b, d, most) = long-parts c f l t e in inside-append (c .long) (upFrom f l) [] (up-inside (c .long) f l a d) tt
 
 pub longs-inside : (c : Counters) (l : List Station) → AllWithin c l → Inside (c .long) (gatherOf spread (longStretches l))
 longs-inside c [] w = tt

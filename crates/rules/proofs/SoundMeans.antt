@@ -97,7 +97,7 @@ module _ (stations : List Station) (rows : List Row) (e : soundTable stations ro
   says-shared k h =
       sym (counters-eq (tableCounters stations) (stationAt stations k .counters) (all-at (λ (s : Station). sameCounters (tableCounters stations) (s .counters)) noStation stations (t .shared) k h))
 
-  all-in : AllWithin (tableCounters stations) stations
+  pub all-in : AllWithin (tableCounters stations) stations
   all-in = all-within (tableCounters stations) stations says-within says-shared
 
   says-distinct : (i k : ℕ) → i < length stations → k < length stations → stationAt stations i .index ≡ stationAt stations k .index → i ≡ k

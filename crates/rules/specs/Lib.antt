@@ -28,3 +28,4 @@ pub mod RowAccount
 pub mod Recorded
 pub mod Changes
 pub mod Edges
+pub mod Room
