@@ -17,20 +17,20 @@ fn check(kind: u64, groups: u8, times: u64) -> u64 {
     unsafe { bench_check(kind, groups, times) }
 }
 
-/// Nanoseconds of one more of what `run` repeats in each round: the least of seven differences.
-fn cost(rounds: u64, again: u64, run: impl Fn(u64) -> u64) -> f64 {
+/// The shortest of 60 runs, in nanoseconds.
+fn shortest(run: impl Fn() -> u64) -> f64 {
     let mut least = f64::INFINITY;
-    for _ in 0..7 {
+    for _ in 0..60 {
         let start = Instant::now();
-        let few = run(1);
-        let middle = Instant::now();
-        let many = run(1 + again);
-        let end = Instant::now();
-        assert!(few != many);
-        let ns = (end - middle).as_nanos() as f64 - (middle - start).as_nanos() as f64;
-        least = least.min(ns / (rounds * again) as f64);
+        std::hint::black_box(run());
+        least = least.min(start.elapsed().as_nanos() as f64);
     }
     least
+}
+
+/// Nanoseconds of one more of what `run` repeats in each round.
+fn cost(rounds: u64, again: u64, run: impl Fn(u64) -> u64) -> f64 {
+    (shortest(|| run(1 + again)) - shortest(|| run(1))) / (rounds * again) as f64
 }
 
 fn main() {
@@ -40,7 +40,7 @@ fn main() {
         (Some("load"), &[rounds, slots, picks, checks]) => println!("{}", load(rounds, slots, picks, checks)),
         (Some("check"), &[kind, groups, times]) => println!("{}", check(kind, groups as u8, times)),
         _ => {
-            let (rounds, again) = (500, 20);
+            let (rounds, again) = (100, 20);
             let picks = cost(rounds, again, |k| load(rounds, 0, k, 0));
             let slot = cost(rounds, again, |k| load(rounds, k, 0, 0)) - picks;
             let test = cost(rounds, again, |k| load(rounds, 0, 0, k));
