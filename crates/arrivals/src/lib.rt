@@ -4,10 +4,15 @@ ghost use Prim.Native.Nat.{_≤_};
 ghost use lib.ListN.{length};
 
 pub const ARRIVES: u64 = 1;
+
 pub const KIND: u64 = 2;
+
 pub const SIZE: u64 = 3;
+
 pub const PICK: u64 = 4;
+
 pub const BAD: u64 = 5;
+
 pub const BAD_KIND: u64 = 6;
 
 // A multiple of a number, below 2^32, its halves changed over.

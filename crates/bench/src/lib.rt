@@ -7,6 +7,10 @@ use arrivals::draw;
 use arrivals::picks_of;
 use arrivals::size;
 use held::Channel;
+use minislot::Feedback;
+use minislot::Reading;
+use minislot::read;
+use pattern::index_of;
 use rules::Answer;
 use rules::Row;
 use rules::Station;
@@ -139,4 +143,41 @@ pub extern "C" fn bench_check(kind: u64, groups: u8, times: u64) -> u64 {
     let wire = c.wire;
     let table = first_64(stations);
     checks_again(table, wire, times)
+}
+
+// What is read of a minislot, as a number.
+fn heard(word: u16) -> u64 {
+    let reading = read(word, 1);
+    match reading {
+        Reading::Heard(feedback) => match feedback {
+            Feedback::Empty => 1,
+            Feedback::Single(index, _) => index as u64,
+            Feedback::Collide => 2,
+        },
+        Reading::Refused(number) => number as u64,
+    }
+}
+
+// So many minislots read, their words going through the 4096 of twelve bits.
+#[no_mangle]
+pub extern "C" fn bench_read(times: u64) -> u64 {
+    let mut d: u64 = 0;
+    let mut i: u64 = 0;
+    while i < times {
+        d = plus(d, heard((i % 4096) as u16));
+        i += 1;
+    }
+    d
+}
+
+// The same words' indexes alone.
+#[no_mangle]
+pub extern "C" fn bench_index(times: u64) -> u64 {
+    let mut d: u64 = 0;
+    let mut i: u64 = 0;
+    while i < times {
+        d = plus(d, index_of((i % 4096) as u16) as u64);
+        i += 1;
+    }
+    d
 }

@@ -2,8 +2,8 @@
 use crate::tables::least;
 use held::Channel;
 use printing::field;
-use printing::field16;
 use printing::field8;
+use printing::field16;
 use printing::record_line;
 use printing::refused_line;
 use printing::text;

@@ -8,18 +8,31 @@ use rules::Turn;
 
 // Where each total stands.
 const TURN_URGENT: usize = 0;
+
 const TURN_LONG: usize = 1;
+
 const TURN_RESOLVE: usize = 2;
+
 const TURN_OPEN: usize = 3;
+
 const REFUSED_9: usize = 4;
+
 const REFUSED_10: usize = 5;
+
 const REFUSED_16: usize = 6;
+
 const REFUSED_17: usize = 7;
+
 const REFUSED_11: usize = 8;
+
 const REFUSED_OTHER: usize = 9;
+
 const MESSAGES: usize = 10;
+
 const SENDERS: usize = 11;
+
 const TAKEN: usize = 12;
+
 const DELIVERED: usize = 13;
 
 pub struct Totals {

@@ -51,3 +51,4 @@ pub mod StationLaws
 pub mod SoundnessLaws
 pub mod ChannelLaws
 pub mod NeverSeven
+pub mod NumbersHold

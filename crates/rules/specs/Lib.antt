@@ -26,6 +26,7 @@ pub mod Positions
 pub mod Demand3
 pub mod RowAccount
 pub mod Recorded
+pub mod Answered
 pub mod Changes
 pub mod Edges
 pub mod Room

@@ -1,7 +1,6 @@
--- The paper's number of each answer: that of the refusal, and 0 where the call went through. What an answer carries besides is as the paper
--- lists it: listening, the turn; an offer, the slot total; a station's slot, the turn, the minislot of its request and the segment it sends
--- (0 for none); a channel's slot, the turn, the number of data senders, the index and segment of a lone sender, and the slots delivered.
+-- The paper's number and values of each answer, by its cases (paper 01, "Operations and their numbers"). Which of them a call answers: specs/Answered.
 -- Assumes nothing.
+use mathlib.Core.List.{List, [], _∷_}
 use Prim.Native.Nat.{ℕ}
 use Rattle.rules.specs.declared.StartAnswer.{StartAnswer}
 use Rattle.rules.specs.declared.StartAnswer.the-variants.{Ready, Refused as RefusedStart}
@@ -11,31 +10,47 @@ use Rattle.rules.specs.declared.OfferAnswer.{OfferAnswer}
 use Rattle.rules.specs.declared.OfferAnswer.the-variants.{Taken as TakenOffer, Refused as RefusedOffer}
 use Rattle.rules.specs.declared.SlotAnswer.{SlotAnswer}
 use Rattle.rules.specs.declared.SlotAnswer.the-variants.{Went as WentSlot, Refused as RefusedSlot}
-use Rattle.rules.specs.declared.Answer.{Answer}
-use Rattle.rules.specs.declared.Answer.the-variants.{Refused, Taken, Went}
+use Rattle.rules.specs.Calls.{Answer, Refused, Taken, Went}
+use Rattle.rules.specs.Turns.{Turn}
 
--- starting a listener, a station or a channel
-abbrev pub startNumber : StartAnswer → ℕ
-startNumber Ready = 0
-startNumber (RefusedStart n) = n
+-- an answer as the paper gives it: the number of the refusal, 0 where the call went through; then the turn, if it answers one, and its other values in
+-- the paper's order
+pub record Told : Type 0 where
+  pub number : ℕ
+  pub turn : List Turn
+  pub values : List ℕ
 
--- listening
-abbrev pub listenNumber : ListenAnswer → ℕ
-listenNumber (WentListening turn) = 0
-listenNumber (RefusedListening n) = n
+-- a refusal: its number and nothing else
+abbrev pub refusal : ℕ → Told
+refusal n = record { number = n; turn = []; values = [] }
 
--- offering a message to a station
-abbrev pub offerNumber : OfferAnswer → ℕ
-offerNumber (TakenOffer total) = 0
-offerNumber (RefusedOffer n) = n
+-- a call that went through: 0, the turn and the values
+abbrev pub went : List Turn → List ℕ → Told
+went turn values = record { number = 0; turn = turn; values = values }
 
--- a station's slot
-abbrev pub slotNumber : SlotAnswer → ℕ
-slotNumber (WentSlot turn minislot segment) = 0
-slotNumber (RefusedSlot n) = n
+-- starting a listener, a station or a channel: no values
+abbrev pub startTold : StartAnswer → Told
+startTold Ready = went [] []
+startTold (RefusedStart n) = refusal n
 
--- an offer on a channel, and a channel's slot
-abbrev pub callNumber : Answer → ℕ
-callNumber (Refused n) = n
-callNumber (Taken total) = 0
-callNumber (Went turn senders index segment delivered) = 0
+-- listening: the turn
+abbrev pub listenTold : ListenAnswer → Told
+listenTold (WentListening turn) = went (turn ∷ []) []
+listenTold (RefusedListening n) = refusal n
+
+-- offering a message to a station: the slot total
+abbrev pub offerTold : OfferAnswer → Told
+offerTold (TakenOffer total) = went [] (total ∷ [])
+offerTold (RefusedOffer n) = refusal n
+
+-- a station's slot: the turn, then the minislot of its request and the segment it sends, each 0 for none
+abbrev pub slotTold : SlotAnswer → Told
+slotTold (WentSlot turn minislot segment) = went (turn ∷ []) (minislot ∷ segment ∷ [])
+slotTold (RefusedSlot n) = refusal n
+
+-- an offer on a channel: the slot total; a channel's slot: the turn, then the number of data senders, the index and segment of a lone sender, and the
+-- slots delivered
+abbrev pub callTold : Answer → Told
+callTold (Refused n) = refusal n
+callTold (Taken total) = went [] (total ∷ [])
+callTold (Went turn senders index segment delivered) = went (turn ∷ []) (senders ∷ index ∷ segment ∷ delivered ∷ [])
