@@ -44,6 +44,7 @@ use Rattle.rules.proofs.SlotStep.{and-both}
 use Rattle.rules.proofs.WireRows.{asRequest, leaves, minislotRow, length-row, take-row, row-at, AsksOnce, Indexes, feedbackRow, row-reads, heard-number, heard-feedbacks}
 use Rattle.rules.proofs.OwnHears.{hears-row}
 use Rattle.rules.proofs.Walking.{IsStation, AreStations, slot-passes}
+use Rattle.rules.proofs.Embody.{feedback-is}
 use Rattle.rules.proofs.SoundKept.{asked-are}
 use Rattle.rules.proofs.SoundMeans.{sound-says}
 use Rattle.rules.proofs.LimitLaws.{Within, within-limits, arrays-lengths, between-bounds}
@@ -66,12 +67,6 @@ asks-once-within c g j k (Asked h i t) e = go (eqb h g) (eqb i j)
 asks-once-within c g j k (Resolving h i t) e = inl refl
 asks-once-within c g j k (Urgent i) e = inl refl
 asks-once-within c g j k (Long f l t) e = inl refl
-
--- what is read of a row that the stations asked left is what the shared table hears
-read-asked : (ix : ℕ → ℕ) (K : ℕ) (I : Indexes ix K) (condition : ℕ → Condition) (g : ℕ) (once : (j k : ℕ) → AsksOnce k (askedSender g j k (condition k))) (n j : ℕ)
-    → feedbackRow ix K I (λ j k. askedSender g j k (condition k)) once n j ≡ askedRow ix K condition g n j
-read-asked ix K I condition g once zero j = refl
-read-asked ix K I condition g once (suc n) j = ap (λ (l : List Feedback). hearing ix (gather (λ k. askedSender g j k (condition k)) K) ∷ l) (read-asked ix K I condition g once n (suc j))
 
 -- ---- the start and the shared table, from the records
 
@@ -217,7 +212,7 @@ module _ (stations : List Station) (wire : List Row) (some : 1 ≤ length statio
   left-reads : readings (wordsOf leftHere) (countsOf leftHere) ≡ map Heard askedHere
   left-reads =
       row-reads (index (startMade stations)) (length stations) indexes (λ j k. askedSender (tableCounters stations .next) j k (getD stations k noStation .condition)) (once (tableCounters stations .next)) (tableCounters stations .minislots) 1
-      ∙ ap (map Heard) (read-asked (index (startMade stations)) (length stations) indexes (λ k. getD stations k noStation .condition) (tableCounters stations .next) (once (tableCounters stations .next)) (tableCounters stations .minislots) 1)
+      ∙ ap (map Heard) (feedback-is (index (startMade stations)) (length stations) indexes (λ k. getD stations k noStation .condition) (tableCounters stations .next) (once (tableCounters stations .next)) (tableCounters stations .minislots) 1)
 
   left-feedbacks : feedbacks (readings (wordsOf leftHere) (countsOf leftHere)) ≡ askedHere
   left-feedbacks = ap feedbacks left-reads ∙ heard-feedbacks askedHere

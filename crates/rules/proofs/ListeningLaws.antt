@@ -41,7 +41,7 @@ module _ (c : Counters) (words counts : List ℕ) where
 
   module _ (within : withinLimits c ≡ true) where
     -- within the limits m is 2 to 8, so a row is short exactly where it has not m words and m counts
-    same-test : hasMinislots (c .minislots) words counts ≡ hasRow (c .minislots) words counts
+    pub same-test : hasMinislots (c .minislots) words counts ≡ hasRow (c .minislots) words counts
     same-test =
         let w = within-limits c within in
         rw (le-leb 2 (c .minislots) (w .minislots .0), le-leb (c .minislots) 8 (w .minislots .1))

@@ -37,6 +37,7 @@ use Rattle.rules.specs.OwnHearing.{ownMinislot, hearsAt, hearsFrom, hear
 use Rattle.rules.specs.Requesting.{requests, requested}
 use Rattle.rules.specs.Serving.{sends, moved}
 use Rattle.rules.specs.StationCalls.{refusedSlot, requestMinislot, stationAfter, heardSlotOf, slotOf}
+use Rattle.rules.proofs.ListeningLaws.{same-test}
 use Rattle.rules.proofs.LimitLaws.{between-bounds, within-limits, none-passes}
 use Rattle.rules.proofs.QueueingLaws.{row-grows, passes-grows}
 
@@ -251,11 +252,6 @@ module _ (s : Station) (words counts : List ℕ) (pick : ℕ) where
     abbrev m : ℕ
     m = s .counters .minislots
 
-    same-test : hasMinislots m words counts ≡ hasRow m words counts
-    same-test =
-        let w = within-limits (s .counters) (station-within s within .counters) in
-        rw (le-leb 2 m (w .minislots .0), le-leb m 8 (w .minislots .1))
-
     pub whole-row : WholeIfHeard m words (rowOf m words counts)
     whole-row none =
         let whole = number-zero m words counts none in
@@ -270,7 +266,7 @@ module _ (s : Station) (words counts : List ℕ) (pick : ℕ) where
     -- within the limits a slot is what the row's reading leads to
     pub slot-row : heardStation s words (rowOf m words counts) pick ≡ slotOf s words counts pick
     unfolding slotOf
-    slot-row = rw (within, ← same-test) (go (hasMinislots m words counts) refl)
+    slot-row = rw (within, ← (same-test (s .counters) words counts (station-within s within .counters))) (go (hasMinislots m words counts) refl)
       where
         to : (n : ℕ) → firstNumber (readings words counts) ≡ n → hasMinislots m words counts ≡ true
             → cond (eqb n 0) (heardSlotOf s words (take m (feedbackIn (rowOf m words counts .minislots))) pick) (refusedSlot s n)
