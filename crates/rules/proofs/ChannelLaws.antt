@@ -38,7 +38,6 @@ use Rattle.rules.specs.SoundMeaning.{stationAt, Sound}
 use Rattle.rules.specs.ChannelCalls.{Channel, blankRow, heardRow, slotsOf}
 use Rattle.rules.specs.Calls.{Start, index}
 use Rattle.rules.proofs.Views.{Sender, senderAt, eqb-self}
-use Rattle.rules.proofs.Clauses.{hearing}
 use Rattle.rules.proofs.Shared.{Table, collect, gather, askedSender, askedRow}
 use Rattle.rules.proofs.SlotStep.{and-both}
 use Rattle.rules.proofs.WireRows.{asRequest, leaves, minislotRow, length-row, take-row, row-at, AsksOnce, Indexes, feedbackRow, row-reads, heard-number, heard-feedbacks}

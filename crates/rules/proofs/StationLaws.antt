@@ -11,7 +11,7 @@ use native.Mathlib.Omega.{arith}
 use lib.Count.{ones}
 use lib.Dec.{leb, ltb, eqb}
 use lib.ListN.{length, getD, take, drop, length-take, length-drop}
-use borrow.Author.Tests.{leb-true, le-leb, eq-eqb, ne-eqb, eqb-false}
+use borrow.Author.Tests.{leb-true, eq-eqb, ne-eqb, eqb-false}
 use Rattle.minislot.specs.declared.Feedback.{Feedback}
 use Rattle.minislot.specs.declared.Feedback.the-variants.{Empty, Single, Collide}
 use Rattle.minislot.specs.declared.Reading.{Reading}
@@ -38,7 +38,7 @@ use Rattle.rules.specs.Requesting.{requests, requested}
 use Rattle.rules.specs.Serving.{sends, moved}
 use Rattle.rules.specs.StationCalls.{refusedSlot, requestMinislot, stationAfter, heardSlotOf, slotOf}
 use Rattle.rules.proofs.ListeningLaws.{same-test}
-use Rattle.rules.proofs.LimitLaws.{between-bounds, within-limits, none-passes}
+use Rattle.rules.proofs.LimitLaws.{between-bounds, none-passes}
 use Rattle.rules.proofs.QueueingLaws.{row-grows, passes-grows}
 
 -- ---- the limits
