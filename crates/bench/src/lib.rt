@@ -1,12 +1,14 @@
 // What the benchmark calls: channels of 64 stations under load, with calls repeated on the state as it is, so that the cost of one call is a difference
 // of two runs; and the test of a sound table on tables of each kind.
-mod tables;
+mod kinds;
 
 use arrivals::ARRIVES;
 use arrivals::draw;
 use arrivals::picks_of;
 use arrivals::size;
 use held::Channel;
+use kinds::first_64;
+use kinds::table_of;
 use minislot::Feedback;
 use minislot::Reading;
 use minislot::read;
@@ -16,8 +18,6 @@ use rules::Row;
 use rules::Station;
 use soundness::sound;
 use tables::blank;
-use tables::first_64;
-use tables::table_of;
 
 // A sum that can't pass the type's limit.
 fn plus(d: u64, x: u64) -> u64 {

@@ -1,5 +1,4 @@
 // Tables and answers as lines.
-use crate::tables::least;
 use held::Channel;
 use printing::field;
 use printing::field8;
@@ -11,6 +10,7 @@ use printing::turn_text;
 use rules::Answer;
 use rules::Row;
 use rules::StartAnswer;
+use tables::least;
 
 pub fn start_line(answer: StartAnswer) {
     match answer {

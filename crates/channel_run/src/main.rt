@@ -4,7 +4,7 @@
 // the group, then eight minislots as word and count in turn. A line `start`, `offer` or `slot` has a call's arguments, the line after it the answer,
 // and then the table as the call left it.
 mod lines;
-mod tables;
+mod samples;
 
 use held::Channel;
 use lines::call_line;
@@ -15,13 +15,18 @@ use printing::field8;
 use printing::field16;
 use printing::text;
 use rules::Condition;
-use tables::asked;
-use tables::base;
+use samples::asked;
+use samples::base;
+use samples::counts;
+use samples::indexes_from;
+use samples::not_open;
+use samples::of_group_2;
+use samples::of_three;
+use samples::resolving;
+use samples::station;
+use samples::stretch;
 use tables::blank;
-use tables::counts;
-use tables::resolving;
-use tables::station;
-use tables::stretch;
+use tables::least;
 use tables::with_count;
 use tables::with_minislot;
 use tables::with_station;
@@ -81,8 +86,8 @@ fn slot6(c: Channel, p: u8, q: u8, r: u8) -> Channel {
 
 // 65 indexes from `first` on, of which a start gets the first n.
 fn begun_with(c: Channel, m: u8, n: u8, first: u16, count: usize) -> Channel {
-    let indexes = tables::indexes_from(first);
-    let end = tables::least(count, 65);
+    let indexes = indexes_from(first);
+    let end = least(count, 65);
     begun(c, m, n, &indexes[0..end])
 }
 
@@ -107,10 +112,10 @@ fn starts_refused() {
 // 64 stations start, 65 give 14.
 fn starts() {
     begun_with(base(), 3, 2, 918, 6);
-    begun_with(with_count(blank(), 64), 8, 8, 100, 64);
-    begun_with(with_count(blank(), 65), 8, 8, 100, 65);
-    begun_with(with_count(blank(), 65), 8, 8, 100, 64);
-    begun_with(with_count(blank(), 1), 2, 1, 923, 1);
+    begun_with(blank(64), 8, 8, 100, 64);
+    begun_with(blank(65), 8, 8, 100, 65);
+    begun_with(blank(65), 8, 8, 100, 64);
+    begun_with(blank(1), 2, 1, 923, 1);
 }
 
 // ---- offering: 14, 18, 16, 9, 10
@@ -164,9 +169,9 @@ fn unsound_records() {
     unsound(with_station(c, 5, station(counts(1, 4, 1, 0), 600, free)));
     unsound(with_station(c, 5, station(counts(1, 3, 2, 0), 600, free)));
     unsound(with_station(c, 5, station(counts(1, 3, 1, 1), 600, free)));
-    unsound(with_station(c, 5, station(tables::of_three(), 600, free)));
-    unsound(with_station(c, 5, station(tables::of_group_2(), 600, free)));
-    unsound(with_station(c, 5, station(tables::not_open(), 600, free)));
+    unsound(with_station(c, 5, station(of_three(), 600, free)));
+    unsound(with_station(c, 5, station(of_group_2(), 600, free)));
+    unsound(with_station(c, 5, station(not_open(), 600, free)));
     unsound(with_station(c, 0, station(counts(1, 3, 1, 0), 100, free)));
     unsound(with_station(c, 5, station(counts(1, 3, 1, 0), 600, urgent)));
 }
@@ -216,7 +221,7 @@ fn served() {
 
 // Two stations: immediate success, a collision and its resolution, one of each length beside the other.
 fn from_the_start() {
-    let c = begun_with(with_count(blank(), 2), 2, 1, 7, 2);
+    let c = begun_with(blank(2), 2, 1, 7, 2);
     let c = offered(c, 7, 1);
     let c = slot2(c, 1, 1);
     let c = slot2(c, 1, 1);

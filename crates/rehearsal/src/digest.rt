@@ -1,5 +1,4 @@
 // A digest of answers, tables and wires: each number of them, in order, is added to 31 times the digest before, below 1,000,000,007.
-use crate::least;
 use held::Channel;
 use rules::Answer;
 use rules::Condition;
@@ -7,6 +6,7 @@ use rules::Counters;
 use rules::Row;
 use rules::Station;
 use rules::Turn;
+use tables::least;
 
 pub fn add(d: u64, x: u64) -> u64 {
     (d % 1000000007 * 31 + x % 1000000007) % 1000000007

@@ -16,18 +16,14 @@ use arrivals::size;
 use digest::answer_digest;
 use digest::channel_digest;
 use held::Channel;
-use minislot::Minislot;
 use printing::field;
 use printing::text;
-use rules::Condition;
-use rules::Counters;
-use rules::Row;
-use rules::Station;
+use tables::blank;
+use tables::least;
 use totals::Totals;
 use totals::counted;
 use totals::no_totals;
 use totals::totals_text;
-ghost use Prim.Native.Nat.{_≤_};
 
 const SLOTS: u64 = 3000;
 
@@ -39,29 +35,6 @@ struct Drive {
 }
 
 // ---- a new channel
-
-pub fn least(a: usize, b: usize) -> usize
-    ensures { λ r. ⌜ r ≤ b ⌝ }
-{
-    if a < b { a } else { b }
-}
-
-fn blank_station() -> Station {
-    let c = Counters {
-        minislots: 0,
-        groups: 0,
-        next: 0,
-        urgent: 0,
-        long: 0,
-        resolution: [0u16; 8],
-        opened: [false; 8],
-    };
-    Station {
-        counters: c,
-        index: 0,
-        condition: Condition::Free,
-    }
-}
 
 // Station k of a channel with n groups has this index; none has 923.
 fn index_of(k: usize, n: u8) -> u16 {
@@ -75,16 +48,8 @@ fn started(count: usize, m: u8, n: u8) -> Channel {
         indexes[k] = index_of(k, n);
         k += 1;
     }
-    let row = Row {
-        minislots: [Minislot { word: 0, count: 0 }; 8],
-    };
-    let blank = Channel {
-        stations: [blank_station(); 65],
-        count,
-        wire: [row; 8],
-    };
     let end = least(count, 65);
-    let r = held::start(blank, m, n, &indexes[0..end]);
+    let r = held::start(blank(count), m, n, &indexes[0..end]);
     r.channel
 }
 

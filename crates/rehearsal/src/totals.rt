@@ -1,10 +1,10 @@
 // What is counted of a channel's answers, and what waits in its stations.
-use crate::least;
 use held::Channel;
 use printing::field;
 use rules::Answer;
 use rules::Condition;
 use rules::Turn;
+use tables::least;
 
 // Where each total stands.
 const TURN_URGENT: usize = 0;

@@ -34,11 +34,11 @@ loop-less c = search needs
 loop-again : tie.Need-loop-again Inv-loop μ-loop
 loop-again c = search needs
 
-blank-station-requires : tie.Need-blank-station-requires Inv-loop μ-loop
-blank-station-requires c κs = search needs
-
 least-requires : tie.Need-least-requires Inv-loop μ-loop
 least-requires c κs = search needs
+
+blank-requires : tie.Need-blank-requires Inv-loop μ-loop
+blank-requires c κs = search needs
 
 sub-start : tie.Need-sub-start Inv-loop μ-loop
 sub-start c = search needs
@@ -68,8 +68,8 @@ started-spec =
     add-k
     loop-less
     loop-again
-    blank-station-requires
     least-requires
+    blank-requires
     sub-start
     part-start-start
     part-start-end

@@ -1,11 +1,11 @@
--- `channel_run::tables::indexes_from` is safe and ends: a place is one of the 65, and no index passes 2,001.
+-- `channel_run::samples::indexes_from` is safe and ends: a place is one of the 65, and no index passes 2,001.
 -- Assumes nothing.
 use mathlib.Core.Path.{_≡_}
 use Prim.Native.Nat.{_≤_, _-_}
 use lib.ListN.{length}
 use borrow.Author.Needs.{needs}
-use Rattle.channel_run.proofs.tables.indexes_from.Statement.{statement}
-use Rattle.channel_run.proofs.tables.indexes_from.Tie as tie
+use Rattle.channel_run.proofs.samples.indexes_from.Statement.{statement}
+use Rattle.channel_run.proofs.samples.indexes_from.Tie as tie
 
 abbrev Inv-loop : tie.InvT-loop
 Inv-loop first indexes₀ k₀ index₀ indexes k index = (length indexes ≡ 65) × ((k ≤ 65) × (index ≤ 2001))

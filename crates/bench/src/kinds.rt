@@ -1,11 +1,12 @@
 // Tables of 64 stations of one kind each.
 use arrivals::draw;
 use held::Channel;
-use minislot::Minislot;
 use rules::Condition;
 use rules::Counters;
-use rules::Row;
 use rules::Station;
+use tables::blank;
+use tables::with_minislot;
+use tables::with_station;
 
 fn counters(groups: u8, urgent: u16, long: u16, resolution: u16) -> Counters {
     let mut queues = [0u16; 8];
@@ -21,22 +22,6 @@ fn counters(groups: u8, urgent: u16, long: u16, resolution: u16) -> Counters {
     }
 }
 
-pub fn blank(count: usize) -> Channel {
-    let s = Station {
-        counters: counters(0, 0, 0, 0),
-        index: 0,
-        condition: Condition::Free,
-    };
-    let row = Row {
-        minislots: [Minislot { word: 0, count: 0 }; 8],
-    };
-    Channel {
-        stations: [s; 65],
-        count,
-        wire: [row; 8],
-    }
-}
-
 pub fn first_64(stations: [Station; 65]) -> [Station; 64] {
     let blank = stations[0];
     let mut table = [blank; 64];
@@ -46,19 +31,6 @@ pub fn first_64(stations: [Station; 65]) -> [Station; 64] {
         k += 1;
     }
     table
-}
-
-fn with_station(c: Channel, k: usize, s: Station) -> Channel {
-    let mut stations = c.stations;
-    let wire = c.wire;
-    if k < 65 {
-        stations[k] = s;
-    }
-    Channel {
-        stations,
-        count: c.count,
-        wire,
-    }
 }
 
 // ---- the condition of station k
@@ -166,31 +138,18 @@ fn full(groups: u8) -> Counters {
 
 // ---- the wire that belongs to a table
 
-fn with_word(row: Row, j: usize, word: u16) -> Row {
-    let mut minislots = row.minislots;
-    if j < 8 {
-        let before = minislots[j];
-        minislots[j] = Minislot {
-            word: before.word | word,
-            count: 255,
-        };
-    }
-    Row { minislots }
-}
-
 // One more word in minislot j of group g, both from 0.
 fn joined(c: Channel, g: usize, j: usize, word: u16) -> Channel {
-    let stations = c.stations;
-    let mut wire = c.wire;
+    let wire = c.wire;
     if g < 8 {
-        let before = wire[g];
-        wire[g] = with_word(before, j, word);
+        let row = wire[g];
+        let minislots = row.minislots;
+        if j < 8 {
+            let before = minislots[j];
+            return with_minislot(c, g, j, before.word | word, 255);
+        }
     }
-    Channel {
-        stations,
-        count: c.count,
-        wire,
-    }
+    c
 }
 
 fn asking(c: Channel, kind: u64, words: [u16; 924]) -> Channel {

@@ -1,9 +1,9 @@
--- `bench::tables::table_of` is safe and ends: the station is one of the 64.
+-- `bench::kinds::table_of` is safe and ends: the station is one of the 64.
 -- Assumes nothing.
 use Prim.Native.Nat.{_≤_, _-_}
 use borrow.Author.Needs.{needs}
-use Rattle.bench.proofs.tables.table_of.Statement.{statement}
-use Rattle.bench.proofs.tables.table_of.Tie as tie
+use Rattle.bench.proofs.kinds.table_of.Statement.{statement}
+use Rattle.bench.proofs.kinds.table_of.Tie as tie
 
 abbrev Inv-loop : tie.InvT-loop
 Inv-loop kind groups shared c₀ k₀ c k = k ≤ 64

@@ -1,11 +1,11 @@
--- `bench::tables::full` is safe and ends: the group is one of the eight.
+-- `bench::kinds::full` is safe and ends: the group is one of the eight.
 -- Assumes nothing.
 use mathlib.Core.Path.{_≡_}
 use Prim.Native.Nat.{_≤_, _-_}
 use lib.ListN.{length}
 use borrow.Author.Needs.{needs}
-use Rattle.bench.proofs.tables.full.Statement.{statement}
-use Rattle.bench.proofs.tables.full.Tie as tie
+use Rattle.bench.proofs.kinds.full.Statement.{statement}
+use Rattle.bench.proofs.kinds.full.Tie as tie
 
 abbrev Inv-loop : tie.InvT-loop
 Inv-loop groups queues₀ g₀ queues g = (length queues ≡ 8) × (g ≤ 8)

@@ -1,17 +1,11 @@
 // Tables that calls are tried on.
 use held::Channel;
-use minislot::Minislot;
 use rules::Condition;
 use rules::Counters;
-use rules::Row;
 use rules::Station;
-ghost use Prim.Native.Nat.{_≤_};
-
-pub fn least(a: usize, b: usize) -> usize
-    ensures { λ r. ⌜ r ≤ b ⌝ }
-{
-    if a < b { a } else { b }
-}
+use tables::blank;
+use tables::with_minislot;
+use tables::with_station;
 
 // Counters of two minislots and two groups, the first being next, by H, N and the two RQ.
 pub fn counts(urgent: u16, long: u16, first: u16, second: u16) -> Counters {
@@ -78,74 +72,11 @@ pub fn stretch(first: u16, left: u8, total: u8) -> Condition {
     Condition::Long { first, left, total }
 }
 
-// No station at all, and a silent wire.
-pub fn blank() -> Channel {
-    let mut c = counts(0, 0, 0, 0);
-    c.minislots = 0;
-    c.groups = 0;
-    c.next = 0;
-    c.opened = [false; 8];
-    let row = Row {
-        minislots: [Minislot { word: 0, count: 0 }; 8],
-    };
-    Channel {
-        stations: [station(c, 0, Condition::Free); 65],
-        count: 0,
-        wire: [row; 8],
-    }
-}
-
-pub fn with_count(c: Channel, count: usize) -> Channel {
-    let stations = c.stations;
-    let wire = c.wire;
-    Channel {
-        stations,
-        count,
-        wire,
-    }
-}
-
-pub fn with_station(c: Channel, k: usize, s: Station) -> Channel {
-    let mut stations = c.stations;
-    let wire = c.wire;
-    if k < 65 {
-        stations[k] = s;
-    }
-    Channel {
-        stations,
-        count: c.count,
-        wire,
-    }
-}
-
-// Minislot j of group g (both from 0) has this word and count.
-pub fn with_minislot(c: Channel, g: usize, j: usize, word: u16, count: u8) -> Channel {
-    let stations = c.stations;
-    let mut wire = c.wire;
-    if g < 8 {
-        let row = wire[g];
-        let mut minislots = row.minislots;
-        if j < 8 {
-            minislots[j] = Minislot { word, count };
-        }
-        wire[g] = Row { minislots };
-    }
-    Channel {
-        stations,
-        count: c.count,
-        wire,
-    }
-}
-
 // Six stations of two groups, in every condition but fresh: one urgent, one with three slots of the long queue, two at place 1 of group 1's
 // resolution queue, one that asked group 2 for five slots in minislot 1, one free.
 pub fn base() -> Channel {
     let k = counts(1, 3, 1, 0);
-    let c = with_station(
-        with_count(blank(), 6),
-        0,
-        station(k, 100, Condition::Urgent { place: 1 }),
-    );
+    let c = with_station(blank(6), 0, station(k, 100, Condition::Urgent { place: 1 }));
     let c = with_station(c, 1, station(k, 200, stretch(1, 3, 3)));
     let c = with_station(c, 2, station(k, 300, resolving(1, 1, 1)));
     let c = with_station(c, 3, station(k, 400, resolving(1, 1, 2)));

@@ -1,11 +1,11 @@
--- `bench::tables::first_64` is safe and ends: a place is one of the 64.
+-- `bench::kinds::first_64` is safe and ends: a place is one of the 64.
 -- Assumes nothing.
 use mathlib.Core.Path.{_≡_}
 use Prim.Native.Nat.{_≤_, _-_}
 use lib.ListN.{length}
 use borrow.Author.Needs.{needs}
-use Rattle.bench.proofs.tables.first_64.Statement.{statement}
-use Rattle.bench.proofs.tables.first_64.Tie as tie
+use Rattle.bench.proofs.kinds.first_64.Statement.{statement}
+use Rattle.bench.proofs.kinds.first_64.Tie as tie
 
 abbrev Inv-loop : tie.InvT-loop
 Inv-loop stations table₀ k₀ table k = (length table ≡ 64) × (k ≤ 64)

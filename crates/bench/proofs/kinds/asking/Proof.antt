@@ -1,9 +1,9 @@
--- `bench::tables::asking` is safe and ends: the station is one of the 64.
+-- `bench::kinds::asking` is safe and ends: the station is one of the 64.
 -- Assumes nothing.
 use Prim.Native.Nat.{_≤_, _-_}
 use borrow.Author.Needs.{needs}
-use Rattle.bench.proofs.tables.asking.Statement.{statement}
-use Rattle.bench.proofs.tables.asking.Tie as tie
+use Rattle.bench.proofs.kinds.asking.Statement.{statement}
+use Rattle.bench.proofs.kinds.asking.Tie as tie
 
 abbrev Inv-loop : tie.InvT-loop
 Inv-loop kind words c₀ k₀ c k = k ≤ 64
