@@ -9,6 +9,8 @@ use Rattle.rules.specs.declared.Answer.{Answer}
 use Rattle.rules.specs.declared.StartAnswer.{StartAnswer}
 use Rattle.rules.specs.Calls.{Call, Offer, Slot}
 use Rattle.rules.specs.ChannelCalls.{Channel, channelStartOf, channelOfferOf, channelSlotOf}
+use Rattle.rules.specs.Numbers.{startTold, callTold}
+use Rattle.rules.specs.Answered.{channelStartToldOf, channelOfferToldOf, channelSlotToldOf}
 use Rattle.decisions.specs.Deciding.{channelOf}
 
 -- what a call leaves: the lent table, the wire handed back, and the answer
@@ -21,16 +23,16 @@ pub record Left : Type 0 where
 abbrev pub StartMet : List Station → List Row → ℕ → ℕ → List ℕ → List Station → List Row → StartAnswer → Type 0
 StartMet table wire m n indexes after hence answer =
     (after ≡ channelStartOf (channelOf table wire) m n indexes .state .stations) × (hence ≡ channelStartOf (channelOf table wire) m n indexes .state .wire)
-    × (answer ≡ channelStartOf (channelOf table wire) m n indexes .answer)
+    × (answer ≡ channelStartOf (channelOf table wire) m n indexes .answer) × (startTold answer ≡ channelStartToldOf (channelOf table wire) m n indexes)
 
 -- the contracts of `offer` and of `slot`
 abbrev pub CallMet : List Station → List Row → Call → Left → Type 0
 CallMet table wire (Offer index bytes) r =
     (r .stations ≡ channelOfferOf (channelOf table wire) index bytes .state .stations) × (r .wire ≡ channelOfferOf (channelOf table wire) index bytes .state .wire)
-    × (r .answer ≡ channelOfferOf (channelOf table wire) index bytes .answer)
+    × (r .answer ≡ channelOfferOf (channelOf table wire) index bytes .answer) × (callTold (r .answer) ≡ channelOfferToldOf (channelOf table wire) index bytes)
 CallMet table wire (Slot picks) r =
     (r .stations ≡ channelSlotOf (channelOf table wire) picks .state .stations) × (r .wire ≡ channelSlotOf (channelOf table wire) picks .state .wire)
-    × (r .answer ≡ channelSlotOf (channelOf table wire) picks .answer)
+    × (r .answer ≡ channelSlotOf (channelOf table wire) picks .answer) × (callTold (r .answer) ≡ channelSlotToldOf (channelOf table wire) picks)
 
 -- a list of calls, and what each left
 abbrev pub Ran : List Station → List Row → List Call → List Left → Type 0

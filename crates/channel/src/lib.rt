@@ -16,6 +16,8 @@ use rules::Row;
 use rules::Station;
 ghost use mathlib.Core.Path.{_≡_};
 ghost use Rattle.rules.specs.ChannelCalls.{channelStartOf, channelOfferOf, channelSlotOf};
+ghost use Rattle.rules.specs.Numbers.{startTold, callTold};
+ghost use Rattle.rules.specs.Answered.{channelStartToldOf, channelOfferToldOf, channelSlotToldOf};
 ghost use Rattle.decisions.specs.Loading.{loadOf};
 ghost use Rattle.decisions.specs.Deciding.{channelOf};
 ghost use Rattle.channel.specs.Writing.{storeOf, steppedOf};
@@ -64,7 +66,7 @@ fn step_all(table: &mut [Station], p: Plan)
 // Starts a channel on the lent table: station k gets the k-th index. 5: m or n outside its range. 14: not 1 to 64 stations, or not one index a
 // station. 8: an index above 923. 15: an index twice. A refusal leaves table and wire as they were.
 pub fn start(table: &mut [Station], wire: [Row; 8], m: u8, n: u8, indexes: &[u16]) -> Begun
-    ensures { λ r. ⌜ (now (table .exit) ≡ channelStartOf (channelOf (now (table .entry)) wire) m n (now (indexes .entry)) .state .stations) × (r .wire ≡ channelStartOf (channelOf (now (table .entry)) wire) m n (now (indexes .entry)) .state .wire) × (r .answer ≡ channelStartOf (channelOf (now (table .entry)) wire) m n (now (indexes .entry)) .answer) ⌝ }
+    ensures { λ r. ⌜ (now (table .exit) ≡ channelStartOf (channelOf (now (table .entry)) wire) m n (now (indexes .entry)) .state .stations) × (r .wire ≡ channelStartOf (channelOf (now (table .entry)) wire) m n (now (indexes .entry)) .state .wire) × (r .answer ≡ channelStartOf (channelOf (now (table .entry)) wire) m n (now (indexes .entry)) .answer) × (startTold (r .answer) ≡ channelStartToldOf (channelOf (now (table .entry)) wire) m n (now (indexes .entry))) ⌝ }
 {
     let b = begin(table.len(), wire, m, n, indexes);
     store(table, b.loaded);
@@ -74,7 +76,7 @@ pub fn start(table: &mut [Station], wire: [Row; 8], m: u8, n: u8, indexes: &[u16
 // Offers the station of an index a message of this many bytes. 14: not 1 to 64 stations. 18: the table is not sound. 16: no station of the index.
 // 9: the station is not free. 10: 0 bytes or more than 12,240. A refusal leaves table and wire as they were.
 pub fn offer(table: &mut [Station], wire: [Row; 8], index: u16, bytes: usize) -> Called
-    ensures { λ r. ⌜ (now (table .exit) ≡ channelOfferOf (channelOf (now (table .entry)) wire) index bytes .state .stations) × (r .wire ≡ channelOfferOf (channelOf (now (table .entry)) wire) index bytes .state .wire) × (r .answer ≡ channelOfferOf (channelOf (now (table .entry)) wire) index bytes .answer) ⌝ }
+    ensures { λ r. ⌜ (now (table .exit) ≡ channelOfferOf (channelOf (now (table .entry)) wire) index bytes .state .stations) × (r .wire ≡ channelOfferOf (channelOf (now (table .entry)) wire) index bytes .state .wire) × (r .answer ≡ channelOfferOf (channelOf (now (table .entry)) wire) index bytes .answer) × (callTold (r .answer) ≡ channelOfferToldOf (channelOf (now (table .entry)) wire) index bytes) ⌝ }
 {
     let d = load(table);
     let o = place_offer(d, wire, index, bytes);
@@ -85,7 +87,7 @@ pub fn offer(table: &mut [Station], wire: [Row; 8], index: u16, bytes: usize) ->
 // A slot of the next group. 14: not 1 to 64 stations. 18: the table is not sound. 17: not one pick a station. 11: a pick outside 1 to m. 7: a counter
 // would pass its limit in step 1. A refusal leaves table and wire as they were.
 pub fn slot(table: &mut [Station], wire: [Row; 8], picks: &[u8]) -> Called
-    ensures { λ r. ⌜ (now (table .exit) ≡ channelSlotOf (channelOf (now (table .entry)) wire) (now (picks .entry)) .state .stations) × (r .wire ≡ channelSlotOf (channelOf (now (table .entry)) wire) (now (picks .entry)) .state .wire) × (r .answer ≡ channelSlotOf (channelOf (now (table .entry)) wire) (now (picks .entry)) .answer) ⌝ }
+    ensures { λ r. ⌜ (now (table .exit) ≡ channelSlotOf (channelOf (now (table .entry)) wire) (now (picks .entry)) .state .stations) × (r .wire ≡ channelSlotOf (channelOf (now (table .entry)) wire) (now (picks .entry)) .state .wire) × (r .answer ≡ channelSlotOf (channelOf (now (table .entry)) wire) (now (picks .entry)) .answer) × (callTold (r .answer) ≡ channelSlotToldOf (channelOf (now (table .entry)) wire) (now (picks .entry))) ⌝ }
 {
     let d = load(table);
     let p = plan_slot(d, wire, picks);

@@ -30,9 +30,11 @@ use denote.Triple.Spec.{tripleOf}
 use Rattle.rules.specs.declared.Station.{Station}
 use Rattle.rules.specs.declared.Row.{Row}
 use Rattle.rules.specs.ChannelCalls.{ChannelResult, ChannelStarted, channelStartOf, channelOfferOf, channelSlotOf}
+use Rattle.rules.specs.Calls.{Slot as SlotCall, Offer as OfferCall}
 use Rattle.decisions.specs.declared.Called.{Called}
 use Rattle.decisions.specs.declared.Begun.{Begun}
 use Rattle.decisions.specs.Deciding.{channelOf}
+use Rattle.channel.specs.Runs.{Left, StartMet, CallMet}
 use Rattle.channel.proofs.Lent.{lentSlice, lentVals}
 use Rattle.channel.proofs.StationValue as S
 use Rattle.channel.proofs.WireValue as Z
@@ -54,6 +56,10 @@ begunBy r = record { answer = r .answer; wire = r .state .wire }
 
 begun-is : (c : Begun) (r : ChannelStarted) → c .wire ≡ r .state .wire → c .answer ≡ r .answer → c ≡ begunBy r
 begun-is c r p q = rw (← p, ← q)
+
+-- what an offer or a slot leaves: the table and the result
+abbrev left : List Station → Called → Left
+left stations c = record { stations = stations; wire = c .wire; answer = c .answer }
 
 abbrev pub started : List Station → List Row → ℕ → ℕ → List ℕ → ChannelStarted
 started ys w m n indexes = channelStartOf (channelOf ys w) m n indexes
@@ -93,8 +99,8 @@ module _ {M : Type 1} (𝓤 : URA M) (H : Heap 𝓤) (A : Atoms 𝓤) (mem : Mem
     says-slot W ν δ v =
         qed W (later (some (λ (r : Called). ((‵ (flft (ν ∷ []) fullShare) ⊛ (‵ (flft κ s) ⊛ ‵ ftrue)) ⊛ ‵ (C.R .own r (v ∷ []))) ⊛ raw (ensured 𝓤 H A slot′.ended (slot′.clauses 𝓤 H A mem run) (ν ∷ [], (κ, tt)) (lentSlice l 0 ys δ, (w, (x, tt))) tt r))) ∷ []) ∵
         updating ! $ await ! tt $ pick ! (λ r. split ! $ move ! (1 ∷ []) $
-        use1 W (some (λ (zs : List Station × (Unit {0} × (Unit {0} × Unit {0}))). ‵ (lasts slot′.ended (ν ∷ [], (κ, tt)) (lentSlice l 0 ys δ, (w, (x, tt))) zs) ⊛ raw (fact 𝓤 ((zs .0 ≡ after-slot .state .stations) × (r .wire ≡ after-slot .state .wire) × (r .answer ≡ after-slot .answer))))) (id⊢ 𝓤 _) $ pick ! (λ zs.
-        split ! $ move ! (1 ∷ []) $ heard ! ((zs .0 ≡ after-slot .state .stations) × (r .wire ≡ after-slot .state .wire) × (r .answer ≡ after-slot .answer)) (λ e. fsplit ! $ fsplit ! $ move ! (1 ∷ []) $ feqL ! (λ _. rewrite ! 0 (λ (ws : List Station). ‵ (finally S.R δ ws)) (e .0) refl $
+        use1 W (some (λ (zs : List Station × (Unit {0} × (Unit {0} × Unit {0}))). ‵ (lasts slot′.ended (ν ∷ [], (κ, tt)) (lentSlice l 0 ys δ, (w, (x, tt))) zs) ⊛ raw (fact 𝓤 (CallMet ys w (SlotCall (x .now)) (left (zs .0) r))))) (id⊢ 𝓤 _) $ pick ! (λ zs.
+        split ! $ move ! (1 ∷ []) $ heard ! (CallMet ys w (SlotCall (x .now)) (left (zs .0) r)) (λ e. fsplit ! $ fsplit ! $ move ! (1 ∷ []) $ feqL ! (λ _. rewrite ! 0 (λ (ws : List Station). ‵ (finally S.R δ ws)) (e .0) refl $
         -- [the last list; …; the tokens and the result]
         move ! (2 ∷ []) $ split ! $ move ! (1 ∷ []) $ rewrite ! 0 (λ (c : Called). ‵ (C.R .own c (v ∷ []))) (called-is r after-slot (e .1) (e .2)) refl $ peeks ! C.R (Is C.R) (shows 𝓤 H A C.R) (calledBy after-slot) (v ∷ []) (λ is.
         drop ! $ split ! $ at-once ! $ frame ! $ split ! $ frame ! $ drop ! $ frame ! $ drop ! $ check ! is $ done !)))))
@@ -122,8 +128,8 @@ module _ {M : Type 1} (𝓤 : URA M) (H : Heap 𝓤) (A : Atoms 𝓤) (mem : Mem
     says-offer W ν δ v =
         qed W (later (some (λ (r : Called). ((‵ (flft (ν ∷ []) fullShare) ⊛ ‵ ftrue) ⊛ ‵ (C.R .own r (v ∷ []))) ⊛ raw (ensured 𝓤 H A offer′.ended (offer′.clauses 𝓤 H A mem run) (ν ∷ [], tt) (lentSlice l 0 ys δ, (w, (i, (n, tt)))) tt r))) ∷ []) ∵
         updating ! $ await ! tt $ pick ! (λ r. split ! $ move ! (1 ∷ []) $
-        use1 W (some (λ (zs : List Station × (Unit {0} × (Unit {0} × (Unit {0} × Unit {0})))). ‵ (lasts offer′.ended (ν ∷ [], tt) (lentSlice l 0 ys δ, (w, (i, (n, tt)))) zs) ⊛ raw (fact 𝓤 ((zs .0 ≡ after-offer .state .stations) × (r .wire ≡ after-offer .state .wire) × (r .answer ≡ after-offer .answer))))) (id⊢ 𝓤 _) $ pick ! (λ zs.
-        split ! $ move ! (1 ∷ []) $ heard ! ((zs .0 ≡ after-offer .state .stations) × (r .wire ≡ after-offer .state .wire) × (r .answer ≡ after-offer .answer)) (λ e. fsplit ! $ fsplit ! $ move ! (1 ∷ []) $ feqL ! (λ _. rewrite ! 0 (λ (ws : List Station). ‵ (finally S.R δ ws)) (e .0) refl $
+        use1 W (some (λ (zs : List Station × (Unit {0} × (Unit {0} × (Unit {0} × Unit {0})))). ‵ (lasts offer′.ended (ν ∷ [], tt) (lentSlice l 0 ys δ, (w, (i, (n, tt)))) zs) ⊛ raw (fact 𝓤 (CallMet ys w (OfferCall i n) (left (zs .0) r))))) (id⊢ 𝓤 _) $ pick ! (λ zs.
+        split ! $ move ! (1 ∷ []) $ heard ! (CallMet ys w (OfferCall i n) (left (zs .0) r)) (λ e. fsplit ! $ fsplit ! $ move ! (1 ∷ []) $ feqL ! (λ _. rewrite ! 0 (λ (ws : List Station). ‵ (finally S.R δ ws)) (e .0) refl $
         -- [the last list; …; the tokens and the result]
         move ! (2 ∷ []) $ split ! $ move ! (1 ∷ []) $ rewrite ! 0 (λ (c : Called). ‵ (C.R .own c (v ∷ []))) (called-is r after-offer (e .1) (e .2)) refl $ peeks ! C.R (Is C.R) (shows 𝓤 H A C.R) (calledBy after-offer) (v ∷ []) (λ is.
         drop ! $ split ! $ at-once ! $ frame ! $ frame ! $ frame ! $ drop ! $ check ! is $ done !)))))
@@ -152,8 +158,8 @@ module _ {M : Type 1} (𝓤 : URA M) (H : Heap 𝓤) (A : Atoms 𝓤) (mem : Mem
     says-start W ν δ v =
         qed W (later (some (λ (r : Begun). ((‵ (flft (ν ∷ []) fullShare) ⊛ (‵ (flft κ s) ⊛ ‵ ftrue)) ⊛ ‵ (B.R .own r (v ∷ []))) ⊛ raw (ensured 𝓤 H A start′.ended (start′.clauses 𝓤 H A mem run) (ν ∷ [], (κ, tt)) (lentSlice l 0 ys δ, (w, (m, (n, (x, tt))))) tt r))) ∷ []) ∵
         updating ! $ await ! tt $ pick ! (λ r. split ! $ move ! (1 ∷ []) $
-        use1 W (some (λ (zs : List Station × (Unit {0} × (Unit {0} × (Unit {0} × (Unit {0} × Unit {0}))))). ‵ (lasts start′.ended (ν ∷ [], (κ, tt)) (lentSlice l 0 ys δ, (w, (m, (n, (x, tt))))) zs) ⊛ raw (fact 𝓤 ((zs .0 ≡ after-start .state .stations) × (r .wire ≡ after-start .state .wire) × (r .answer ≡ after-start .answer))))) (id⊢ 𝓤 _) $ pick ! (λ zs.
-        split ! $ move ! (1 ∷ []) $ heard ! ((zs .0 ≡ after-start .state .stations) × (r .wire ≡ after-start .state .wire) × (r .answer ≡ after-start .answer)) (λ e. fsplit ! $ fsplit ! $ move ! (1 ∷ []) $ feqL ! (λ _. rewrite ! 0 (λ (ws : List Station). ‵ (finally S.R δ ws)) (e .0) refl $
+        use1 W (some (λ (zs : List Station × (Unit {0} × (Unit {0} × (Unit {0} × (Unit {0} × Unit {0}))))). ‵ (lasts start′.ended (ν ∷ [], (κ, tt)) (lentSlice l 0 ys δ, (w, (m, (n, (x, tt))))) zs) ⊛ raw (fact 𝓤 (StartMet ys w m n (x .now) (zs .0) (r .wire) (r .answer))))) (id⊢ 𝓤 _) $ pick ! (λ zs.
+        split ! $ move ! (1 ∷ []) $ heard ! (StartMet ys w m n (x .now) (zs .0) (r .wire) (r .answer)) (λ e. fsplit ! $ fsplit ! $ move ! (1 ∷ []) $ feqL ! (λ _. rewrite ! 0 (λ (ws : List Station). ‵ (finally S.R δ ws)) (e .0) refl $
         -- [the last list; …; the tokens and the result]
         move ! (2 ∷ []) $ split ! $ move ! (1 ∷ []) $ rewrite ! 0 (λ (c : Begun). ‵ (B.R .own c (v ∷ []))) (begun-is r after-start (e .1) (e .2)) refl $ peeks ! B.R (Is B.R) (shows 𝓤 H A B.R) (begunBy after-start) (v ∷ []) (λ is.
         drop ! $ split ! $ at-once ! $ frame ! $ split ! $ frame ! $ drop ! $ frame ! $ drop ! $ check ! is $ done !)))))

@@ -7,6 +7,8 @@ use rules::Station;
 ghost use mathlib.Core.Path.{_≡_};
 ghost use Prim.Native.Nat.{_≤_, min};
 ghost use Rattle.rules.specs.ChannelCalls.{channelStartOf, channelOfferOf, channelSlotOf};
+ghost use Rattle.rules.specs.Numbers.{startTold, callTold};
+ghost use Rattle.rules.specs.Answered.{channelStartToldOf, channelOfferToldOf, channelSlotToldOf};
 ghost use Rattle.held.specs.Holding.{lentOf, startLentOf, callLentOf, heldStartOf, heldOfferOf, heldSlotOf};
 
 // Room for 65 records, of which the first `count` are lent to the channel's calls, and the wire. A count above 65 lends all of them.
@@ -70,7 +72,7 @@ fn start_lent(
 
 // Starts the channel, by `channel::start` on the first `count` records.
 pub fn start(c: Channel, m: u8, n: u8, indexes: &[u16]) -> Begun
-    ensures { λ r. ⌜ r ≡ heldStartOf c m n (now (indexes .entry)) ⌝ }
+    ensures { λ r. ⌜ (r ≡ heldStartOf c m n (now (indexes .entry))) × (startTold (r .answer) ≡ channelStartToldOf (lentOf (c .stations) (c .count) (c .wire)) m n (now (indexes .entry))) ⌝ }
 {
     let room = c.stations;
     let before = c.wire;
@@ -111,7 +113,7 @@ fn offer_lent(
 
 // Offers a message of this many bytes to the station of an index, by `channel::offer` on the first `count` records.
 pub fn offer(c: Channel, index: u16, bytes: usize) -> Called
-    ensures { λ r. ⌜ r ≡ heldOfferOf c index bytes ⌝ }
+    ensures { λ r. ⌜ (r ≡ heldOfferOf c index bytes) × (callTold (r .answer) ≡ channelOfferToldOf (lentOf (c .stations) (c .count) (c .wire)) index bytes) ⌝ }
 {
     let room = c.stations;
     let before = c.wire;
@@ -146,7 +148,7 @@ fn slot_lent(stations: [Station; 65], count: usize, wire: [Row; 8], picks: &[u8]
 
 // A slot of the next group, by `channel::slot` on the first `count` records.
 pub fn slot(c: Channel, picks: &[u8]) -> Called
-    ensures { λ r. ⌜ r ≡ heldSlotOf c (now (picks .entry)) ⌝ }
+    ensures { λ r. ⌜ (r ≡ heldSlotOf c (now (picks .entry))) × (callTold (r .answer) ≡ channelSlotToldOf (lentOf (c .stations) (c .count) (c .wire)) (now (picks .entry))) ⌝ }
 {
     let room = c.stations;
     let before = c.wire;

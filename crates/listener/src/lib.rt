@@ -24,10 +24,12 @@ ghost use Rattle.rules.proofs.ListeningLaws.{RowHeard, heardRow};
 ghost use Rattle.rules.specs.Starting.{startOf, noCounters};
 ghost use Rattle.rules.specs.Listening.{listeningOf, listenOf, refusedListening};
 ghost use Rattle.rules.specs.Recorded.{listeningAtOf};
+ghost use Rattle.rules.specs.Numbers.{startTold, listenTold};
+ghost use Rattle.rules.specs.Answered.{startToldOf, listenToldOf, listenAtToldOf};
 
 // Starts a listener. 5: m or n outside its range.
 pub fn start(m: u8, n: u8) -> Started
-    ensures { λ r. ⌜ r ≡ startOf m n ⌝ }
+    ensures { λ r. ⌜ (r ≡ startOf m n) × (startTold (r .answer) ≡ startToldOf m n) ⌝ }
 {
     if m < 2 {
         return refused_start();
@@ -99,7 +101,7 @@ fn hear(c: Counters, row: RowReading) -> Listened
 // Listens to a row. 18: the record is outside its limits. 6: the row has not m minislots. Then 1 to 4 for the first bad minislot. 7: a
 // counter would pass its limit in step 1. A refusal leaves the record as it was.
 pub fn listen(c: Counters, words: &[u16], counts: &[u8]) -> Listened
-    ensures { λ r. ⌜ r ≡ listeningOf c (now (words .entry)) (now (counts .entry)) ⌝ }
+    ensures { λ r. ⌜ (r ≡ listeningOf c (now (words .entry)) (now (counts .entry))) × (listenTold (r .answer) ≡ listenToldOf c (now (words .entry)) (now (counts .entry))) ⌝ }
 {
     if within(c) {
         let row = read_row(words, counts, c.minislots);
@@ -110,7 +112,7 @@ pub fn listen(c: Counters, words: &[u16], counts: &[u8]) -> Listened
 
 // Listens to the row that begins at a place of a longer recording; the numbers are those of `listen`.
 pub fn listen_at(c: Counters, words: &[u16], counts: &[u8], start: usize) -> Listened
-    ensures { λ r. ⌜ r ≡ listeningAtOf c start (now (words .entry)) (now (counts .entry)) ⌝ }
+    ensures { λ r. ⌜ (r ≡ listeningAtOf c start (now (words .entry)) (now (counts .entry))) × (listenTold (r .answer) ≡ listenAtToldOf c start (now (words .entry)) (now (counts .entry))) ⌝ }
 {
     if within(c) {
         let row = read_row_at(words, counts, start, c.minislots);
@@ -121,7 +123,7 @@ pub fn listen_at(c: Counters, words: &[u16], counts: &[u8], start: usize) -> Lis
 
 // Listens to a row with the record lent: it is left as `listen` gives it back, and the answer is its answer.
 pub fn listen_lent(c: &mut Counters, words: &[u16], counts: &[u8]) -> ListenAnswer
-    ensures { λ r. ⌜ (r ≡ listeningOf (now (c .entry)) (now (words .entry)) (now (counts .entry)) .answer) × (now (c .exit) ≡ listeningOf (now (c .entry)) (now (words .entry)) (now (counts .entry)) .counters) ⌝ }
+    ensures { λ r. ⌜ (r ≡ listeningOf (now (c .entry)) (now (words .entry)) (now (counts .entry)) .answer) × (now (c .exit) ≡ listeningOf (now (c .entry)) (now (words .entry)) (now (counts .entry)) .counters) × (listenTold r ≡ listenToldOf (now (c .entry)) (now (words .entry)) (now (counts .entry))) ⌝ }
 {
     let heard = listen(*c, words, counts);
     *c = heard.counters;

@@ -3,12 +3,13 @@
 -- Assumes nothing.
 use Prim.Native.Nat.{ℕ, _+_, _*_, _%_, _≤_, _<_}
 use native.Mathlib.Omega.{arith}
-use mathlib.Core.Path.{_≡_, refl, sym, _∙_}
-use mathlib.Core.Bool.{Bool, true, false, _&&_}
+use mathlib.Core.Path.{_≡_, refl, sym, ap, _∙_}
+use mathlib.Core.Bool.{Bool, true, false, cond, _&&_}
 use lib.Dec.{leb, eqb}
 use borrow.Author.Tests.{leb-true, le-leb, lt-leb, eqb-true, eqb-false}
+use Rattle.message.specs.declared.SlotTotal.{SlotTotal}
 use Rattle.message.specs.declared.SlotTotal.the-variants.{Slots, Refused}
-use Rattle.message.specs.Message.{fitsMessage, ceiling, slotsFor, slotTotalOf, numberOf, totalOf}
+use Rattle.message.specs.Message.{fitsMessage, ceiling, slotsFor, slotTotalOf, numberOf, totalOf, slotsNumberOf, slotsGivenOf}
 
 -- 1 to 12,240 bytes are a message
 pub fits : (bytes : ℕ) → 1 ≤ bytes → bytes ≤ 12240 → fitsMessage bytes ≡ true
@@ -65,22 +66,14 @@ pub refused : (bytes : ℕ) → fitsMessage bytes ≡ false → slotTotalOf byte
 unfolding slotTotalOf
 refused bytes e = rw e
 
--- the number and the slots of either answer
-pub taken-number : (bytes : ℕ) → fitsMessage bytes ≡ true → numberOf (slotTotalOf bytes) ≡ 0
-unfolding numberOf
-taken-number bytes e = rw (taken bytes e)
-
-pub taken-total : (bytes : ℕ) → fitsMessage bytes ≡ true → totalOf (slotTotalOf bytes) ≡ slotsFor bytes
-unfolding totalOf
-taken-total bytes e = rw (taken bytes e)
-
-pub refused-number : (bytes : ℕ) → fitsMessage bytes ≡ false → numberOf (slotTotalOf bytes) ≡ 10
-unfolding numberOf
-refused-number bytes e = rw (refused bytes e)
-
-pub refused-total : (bytes : ℕ) → fitsMessage bytes ≡ false → totalOf (slotTotalOf bytes) ≡ 0
-unfolding totalOf
-refused-total bytes e = rw (refused bytes e)
+-- an answer that is the slot total has its number and its slots
+pub slots-told : (bytes : ℕ) (r : SlotTotal) → r ≡ slotTotalOf bytes → (r ≡ slotTotalOf bytes) × (numberOf r ≡ slotsNumberOf bytes) × (totalOf r ≡ slotsGivenOf bytes)
+unfolding slotTotalOf slotsNumberOf slotsGivenOf numberOf totalOf
+slots-told bytes r e = let t = go (fitsMessage bytes) in (e, ap numberOf e ∙ t .0, ap totalOf e ∙ t .1)
+  where
+    go : (b : Bool) → (numberOf (cond b (Slots (slotsFor bytes)) (Refused 10)) ≡ cond b 0 10) × (totalOf (cond b (Slots (slotsFor bytes)) (Refused 10)) ≡ cond b (slotsFor bytes) 0)
+    go true = (refl, refl)
+    go false = (refl, refl)
 
 -- an answer that gives slots is that of a message, at its slots
 pub taken-from : (bytes total : ℕ) → slotTotalOf bytes ≡ Slots total → (fitsMessage bytes ≡ true) × (slotsFor bytes ≡ total)

@@ -30,3 +30,11 @@ numberOf (Refused number) = number
 unfoldable pub totalOf : SlotTotal → ℕ
 totalOf (Slots total) = total
 totalOf (Refused number) = 0
+
+-- the number of a message of this many bytes: 10 where it does not fit
+unfoldable pub slotsNumberOf : ℕ → ℕ
+slotsNumberOf bytes = cond (fitsMessage bytes) 0 10
+
+-- and the slots that are told with it
+unfoldable pub slotsGivenOf : ℕ → ℕ
+slotsGivenOf bytes = cond (fitsMessage bytes) (slotsFor bytes) 0

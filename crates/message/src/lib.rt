@@ -3,7 +3,7 @@ ghost use mathlib.Core.Path.{_≡_};
 ghost use mathlib.Core.List.{[]};
 ghost use Prim.Native.Nat.{min};
 ghost use lib.ListN.{length};
-ghost use Rattle.message.specs.Message.{slotTotalOf};
+ghost use Rattle.message.specs.Message.{slotTotalOf, numberOf, totalOf, slotsNumberOf, slotsGivenOf};
 ghost use Rattle.message.specs.Segment.{segmentOf, segmentNumber};
 
 // The answer to a message's bytes: the slots it takes, 1 to 255, or the number of the refusal, 10.
@@ -14,7 +14,7 @@ pub enum SlotTotal {
 
 // The slot total of a message of this many bytes.
 pub fn slots(bytes: usize) -> SlotTotal
-    ensures { λ r. ⌜ r ≡ slotTotalOf bytes ⌝ }
+    ensures { λ r. ⌜ (r ≡ slotTotalOf bytes) × (numberOf r ≡ slotsNumberOf bytes) × (totalOf r ≡ slotsGivenOf bytes) ⌝ }
 {
     if bytes == 0 {
         return SlotTotal::Refused(10);

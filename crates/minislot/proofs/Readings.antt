@@ -1,16 +1,20 @@
--- What a reading can be: a refusal's number is 1 to 4, and what each kind of word and count reads as. By the tests of the definition.
+-- What a reading can be: a refusal's number is 1 to 4, what each kind of word and count reads as, and the number and feedback in the paper's order. By the
+-- tests of the definition.
 -- Assumes nothing.
-use mathlib.Core.Path.{_≡_}
-use mathlib.Core.Bool.{Bool, true, false, cond}
+use mathlib.Core.Path.{_≡_, refl, ap, _∙_}
+use mathlib.Core.Bool.{Bool, true, false, cond, not, _&&_}
+use mathlib.Core.List.{[], _∷_}
 use Prim.Native.Nat.{ℕ, _<_, _≤_}
 use native.Mathlib.Omega.{arith}
 use lib.Count.{ones}
 use lib.Dec.{eqb, ltb}
-use borrow.Author.Tests.{lt-ltb, le-ltb, eq-eqb, ne-eqb}
-use Rattle.minislot.specs.declared.Feedback.the-variants.{Empty, Collide}
+use borrow.Author.Tests.{lt-ltb, le-ltb, eq-eqb, ne-eqb, eqb-true}
+use Rattle.pattern.specs.Patterns.{indexOf}
+use Rattle.minislot.specs.declared.Feedback.{Feedback}
+use Rattle.minislot.specs.declared.Feedback.the-variants.{Empty, Single, Collide}
 use Rattle.minislot.specs.declared.Reading.{Reading}
 use Rattle.minislot.specs.declared.Reading.the-variants.{Heard, Refused}
-use Rattle.minislot.specs.Reading.{readingOf, emptyOf, singleOf}
+use Rattle.minislot.specs.Reading.{readingOf, emptyOf, singleOf, readingAnswer, readingAnswerOf}
 
 -- ---- each kind
 
@@ -60,3 +64,27 @@ numbered word count =
 
 pub refusal-number : (word count n : ℕ) → readingOf word count ≡ Refused n → (1 ≤ n) × (n ≤ 4)
 refusal-number word count n e = rw e at (numbered word count)
+
+-- ---- the number in the paper's order, and what is heard with 0
+
+-- by the tests: a one above bit 11, no ones, fewer than six, six, and count 0
+by-tests : (above none few six zero : Bool) (f : Feedback) → (none ≡ true → six ≡ false)
+    → let n : ℕ = cond above 1 (cond (not none && few) 2 (cond (six && zero) 3 (cond (none && not zero) 4 0))) in
+    readingAnswer (cond above (Refused 1) (cond none (cond zero (Heard Empty) (Refused 4)) (cond few (Refused 2) (cond six (cond zero (Refused 3) (Heard f)) (Heard Collide)))))
+    ≡ (n, cond (eqb n 0) (cond none Empty (cond six f Collide) ∷ []) [])
+by-tests true none few six zero f h = refl
+by-tests false true few six true f h = rw (h refl)
+by-tests false true few six false f h = rw (h refl)
+by-tests false false true six zero f h = refl
+by-tests false false false true true f h = refl
+by-tests false false false true false f h = refl
+by-tests false false false false zero f h = refl
+
+pub reading-told : (word count : ℕ) (r : Reading) → r ≡ readingOf word count → (r ≡ readingOf word count) × (readingAnswer r ≡ readingAnswerOf word count)
+unfolding readingOf readingAnswerOf
+reading-told word count r e = (
+  e,
+  ap readingAnswer e
+      ∙ by-tests (ltb 4095 word) (eqb (ones word) 0) (ltb (ones word) 6) (eqb (ones word) 6) (eqb count 0) (Single (indexOf word) count)
+      (λ none. ne-eqb (ones word) 6 (λ six. omega (arith, eqb-true (ones word) 0 none, six))),
+)

@@ -1,9 +1,11 @@
 -- Reading a minislot (paper: "Reading"): by the number of ones of its word, and by its count. Assumes nothing.
-use mathlib.Core.Bool.{cond}
+use mathlib.Core.Bool.{cond, not, _&&_}
+use mathlib.Core.List.{List, [], _∷_}
 use Prim.Native.Nat.{ℕ}
 use lib.Count.{ones}
 use lib.Dec.{eqb, ltb}
 use Rattle.pattern.specs.Patterns.{indexOf}
+use Rattle.minislot.specs.declared.Feedback.{Feedback}
 use Rattle.minislot.specs.declared.Feedback.the-variants.{Empty, Single, Collide}
 use Rattle.minislot.specs.declared.Reading.{Reading}
 use Rattle.minislot.specs.declared.Reading.the-variants.{Heard, Refused}
@@ -25,7 +27,26 @@ readingOf word count =
     (cond (eqb (ones word) 6) (singleOf word count)
     (Heard Collide))))
 
--- the paper's number of each case, 0 where the minislot is heard
+-- the paper's number of each case, 0 where the minislot is heard, and what is heard with it
+abbrev pub readingAnswer : Reading → ℕ × List Feedback
+readingAnswer (Heard f) = (0, f ∷ [])
+readingAnswer (Refused n) = (n, [])
+
 abbrev pub numberOf : Reading → ℕ
-numberOf (Heard f) = 0
-numberOf (Refused n) = n
+numberOf r = readingAnswer r .0
+
+-- the number of a word and a count, in the paper's order. 1: a one above bit 11. 2: one to five ones. 3: Single with count 0. 4: Empty with count above 0
+abbrev pub readingNumberOf : ℕ → ℕ → ℕ
+readingNumberOf word count =
+    cond (ltb 4095 word) 1
+    (cond (not (eqb (ones word) 0) && ltb (ones word) 6) 2
+    (cond (eqb (ones word) 6 && eqb count 0) 3
+    (cond (eqb (ones word) 0 && not (eqb count 0)) 4
+    0)))
+
+-- what is heard where the number is 0: no ones Empty, six ones Single, more Collide
+abbrev pub heardOf : ℕ → ℕ → Feedback
+heardOf word count = cond (eqb (ones word) 0) Empty (cond (eqb (ones word) 6) (Single (indexOf word) count) Collide)
+
+unfoldable pub readingAnswerOf : ℕ → ℕ → ℕ × List Feedback
+readingAnswerOf word count = (readingNumberOf word count, cond (eqb (readingNumberOf word count) 0) (heardOf word count ∷ []) [])

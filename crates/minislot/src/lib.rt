@@ -1,6 +1,6 @@
 // A minislot: what is heard of it as a word and a count, and what that reads as; a row of them.
 ghost use mathlib.Core.Path.{_≡_};
-ghost use Rattle.minislot.specs.Reading.{readingOf, singleOf, emptyOf, numberOf};
+ghost use Rattle.minislot.specs.Reading.{readingOf, singleOf, emptyOf, numberOf, readingAnswer, readingAnswerOf};
 ghost use Rattle.minislot.specs.Row.{minislotsOf, rowOf, rowAtOf, rowAnswer, weightOf};
 ghost use mathlib.Core.List.{[]};
 ghost use Prim.Native.Nat.{_<_, _≤_};
@@ -40,7 +40,7 @@ pub struct RowReading {
 
 // Reads a minislot. 1: a one above bit 11. 2: one to five ones. 3: Single with count 0. 4: Empty with count above 0.
 pub fn read(word: u16, count: u8) -> Reading
-    ensures { λ r. ⌜ r ≡ readingOf word count ⌝ }
+    ensures { λ r. ⌜ (r ≡ readingOf word count) × (readingAnswer r ≡ readingAnswerOf word count) ⌝ }
 {
     if 4095 < word {
         return Reading::Refused(1);

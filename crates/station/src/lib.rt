@@ -43,6 +43,8 @@ ghost use Rattle.rules.specs.Settling.{settledBy};
 ghost use Rattle.rules.specs.StationLimits.{stationWithin};
 ghost use Rattle.rules.specs.StationCalls.{stationStartOf, offerOf, slotOf, heardSlotOf, withCondition, refusedStart, refusedOffer, refusedSlot, requestMinislot};
 ghost use Rattle.rules.specs.Recorded.{slotAtOf};
+ghost use Rattle.rules.specs.Numbers.{startTold, offerTold, slotTold};
+ghost use Rattle.rules.specs.Answered.{stationStartToldOf, offerToldOf, slotToldOf, slotAtToldOf};
 ghost use Rattle.rules.proofs.StationLaws.{Counted, HasLeft, Whole, WholeIfHeard, heardStation, wentSlot};
 
 // ---- starting
@@ -62,7 +64,7 @@ fn refused_start(number: u8) -> StationStarted
 
 // Starts a station. 5: m or n outside its range. 8: the index is above 923.
 pub fn start(m: u8, n: u8, index: u16) -> StationStarted
-    ensures { λ r. ⌜ r ≡ stationStartOf m n index ⌝ }
+    ensures { λ r. ⌜ (r ≡ stationStartOf m n index) × (startTold (r .answer) ≡ stationStartToldOf m n index) ⌝ }
 {
     if in_ranges(m, n) {
         if 923 < index {
@@ -105,7 +107,7 @@ fn with_condition(s: Station, k: Condition) -> Station
 // Offers a station a message of this many bytes. 18: the record is outside its limits. 9: the station is not free. 10: 0 bytes or more than
 // 12,240. A refusal leaves the record as it was.
 pub fn offer(s: Station, bytes: usize) -> StationOffered
-    ensures { λ r. ⌜ r ≡ offerOf s bytes ⌝ }
+    ensures { λ r. ⌜ (r ≡ offerOf s bytes) × (offerTold (r .answer) ≡ offerToldOf s bytes) ⌝ }
 {
     if within(s) {
         let k = s.condition;
@@ -236,7 +238,7 @@ fn hear(s: Station, words: &[u16], row: RowReading, pick: u8) -> StationSlot
 // first bad minislot. 7: a counter would pass its limit in step 1. 12: what the station must hear of itself is missing or foreign. A refusal
 // leaves the record as it was.
 pub fn slot(s: Station, words: &[u16], counts: &[u8], pick: u8) -> StationSlot
-    ensures { λ r. ⌜ r ≡ slotOf s (now (words .entry)) (now (counts .entry)) pick ⌝ }
+    ensures { λ r. ⌜ (r ≡ slotOf s (now (words .entry)) (now (counts .entry)) pick) × (slotTold (r .answer) ≡ slotToldOf s (now (words .entry)) (now (counts .entry)) pick) ⌝ }
 {
     if within(s) {
         let row = read_row(words, counts, s.counters.minislots);
@@ -247,7 +249,7 @@ pub fn slot(s: Station, words: &[u16], counts: &[u8], pick: u8) -> StationSlot
 
 // A station's slot on the row that begins at a place of a longer recording; the numbers are those of `slot`.
 pub fn slot_at(s: Station, words: &[u16], counts: &[u8], start: usize, pick: u8) -> StationSlot
-    ensures { λ r. ⌜ r ≡ slotAtOf s start (now (words .entry)) (now (counts .entry)) pick ⌝ }
+    ensures { λ r. ⌜ (r ≡ slotAtOf s start (now (words .entry)) (now (counts .entry)) pick) × (slotTold (r .answer) ≡ slotAtToldOf s start (now (words .entry)) (now (counts .entry)) pick) ⌝ }
 {
     if within(s) {
         let row = read_row_at(words, counts, start, s.counters.minislots);

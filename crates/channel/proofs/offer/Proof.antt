@@ -46,6 +46,8 @@ use Rattle.decisions.specs.Loading.{loadOf}
 use Rattle.decisions.specs.Deciding.{channelOf, offeredOf}
 use Rattle.channel.specs.Writing.{storeOf, length-store}
 use Rattle.rules.specs.ChannelCalls.{channelOfferOf}
+use Rattle.rules.specs.Numbers.{callTold}
+use Rattle.rules.proofs.NumbersHold.{channel-offer-told}
 use Rattle.decisions.proofs.Loaded.Laws as B′
 use Rattle.decisions.proofs.Offered.Laws as O′
 use Rattle.decisions.proofs.Called.Laws as C′
@@ -143,7 +145,7 @@ module _ {M : Type 1} (𝓤 : URA M) (H : Heap 𝓤) (A : Atoms 𝓤) (W : Given
   exits r e gr =
       qed W (‵ (fobs γ (codedHoleys R .code (heres R zs))) ∷ ‵ (fbor κ (Held R (length zs) b o γ)) ∷ ‵ (flft κ q) ∷ []) ∵
       suffices ! _ (ends-at 𝓤 H A offer′.ended stayed (offer′.clauses 𝓤 H A mem run) W (((κ, tt), (q, tt), tt, a, mach), tt) (C.val r) r (zs, (tt, (tt, (tt, tt)))) (len, (tt, (tt, (tt, tt))))) $
-      says ! (is .stations, ap (λ (z : Called). z .wire) e ∙ is .wire, ap (λ (z : Called). z .answer) e ∙ is .answer) $
+      says ! (is .stations, ap (λ (z : Called). z .wire) e ∙ is .wire, answers, ap callTold answers ∙ channel-offer-told (channelOf ys w) i n) $
       nothing ! $ move ! (3 ∷ 0 ∷ []) $ join ! $ frame ! $
       fjoin ! $ pureI ! (at-slice R (x zs) (mach .0)) (tt, (tt, tt)) (ap (λ (m : ℕ). sliceVal (b, o) m ∷ []) (sym len), subst (Room R) (sym len) room) $ fjoin ! $
       nothing ! $ owned ! usize (Is usize) (uint-makes 𝓤 H A W w64) n _ (refl, n-fits) $ fjoin ! $ owned ! u16 (Is u16) (uint-makes 𝓤 H A W w16) i _ (refl, i-fits) $ fjoin ! $ owned ! Z.R (Is Z.R) (Z.makes 𝓤 H A W) w _ gw $ fjoin ! $
@@ -151,6 +153,9 @@ module _ {M : Type 1} (𝓤 : URA M) (H : Heap 𝓤) (A : Atoms 𝓤) (W : Given
     where
       is : OfferIs ys (offeredOf (loadOf ys) w i n) (channelOfferOf (channelOf ys w) i n)
       is = offer-is ys w i n
+
+      answers : r .answer ≡ channelOfferOf (channelOf ys w) i n .answer
+      answers = ap (λ (z : Called). z .answer) e ∙ is .answer
 
   walk : (𝓣 : Tables 𝓤 H) → Triple 𝓤 (𝓣 .C #channel·load) (Load 𝓤 H A mem run) → Triple 𝓤 (𝓣 .C #decisions·place-offer) (PlaceOffer 𝓤 H A mem run) → Triple 𝓤 (𝓣 .C #channel·store) (Store 𝓤 H A mem run)
       → ent 𝓤 (onEntry 𝓤 H A offer′.signature (κ, tt) (q, tt) a mach) (WpFn 𝓤 H (𝓣 .C) (𝓣 .Λ) fn (sliceVal (b, o) (length ys) ∷ Z.val w ∷ vint w16 i ∷ vint w64 n ∷ []) Post)

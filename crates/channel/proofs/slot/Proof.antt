@@ -47,6 +47,8 @@ use Rattle.decisions.specs.Loading.{loadOf}
 use Rattle.decisions.specs.Deciding.{channelOf, plannedOf}
 use Rattle.channel.specs.Writing.{steppedOf, length-stepped}
 use Rattle.rules.specs.ChannelCalls.{channelSlotOf}
+use Rattle.rules.specs.Numbers.{callTold}
+use Rattle.rules.proofs.NumbersHold.{channel-slot-told}
 use Rattle.decisions.proofs.Loaded.Laws as B′
 use Rattle.decisions.proofs.Planned.Laws as O′
 use Rattle.decisions.proofs.Called.Laws as C′
@@ -143,7 +145,7 @@ module _ {M : Type 1} (𝓤 : URA M) (H : Heap 𝓤) (A : Atoms 𝓤) (W : Given
   exits r e gr =
       qed W (‵ (fobs γ (codedHoleys R .code (heres R zs))) ∷ ‵ (fbor κ (Held R (length zs) b o γ)) ∷ ‵ (flft κ q) ∷ ‵ (flft κ′ q′) ∷ ‵ (ShrSlice (named 1) κ′ u8 .own x′ (mach .1 .1 .0)) ∷ []) ∵
       suffices ! _ (ends-at 𝓤 H A slot′.ended stayed (slot′.clauses 𝓤 H A mem run) W (((κ, (κ′, tt)), (q, (q′, tt)), tt, a, mach), tt) (C.val r) r (zs, (tt, (tt, tt))) (len, (tt, (tt, tt)))) $
-      says ! (is .stations, ap (λ (z : Called). z .wire) e ∙ is .wire, ap (λ (z : Called). z .answer) e ∙ is .answer) $
+      says ! (is .stations, ap (λ (z : Called). z .wire) e ∙ is .wire, answers, ap callTold answers ∙ channel-slot-told (channelOf ys w) ps) $
       nothing ! $ move ! (4 ∷ 0 ∷ []) $ join ! $ move ! (3 ∷ 0 ∷ []) $ join ! $ frame ! $
       fjoin ! $ pureI ! (at-slice R (x zs) (mach .0)) (tt, (tt, tt)) (ap (λ (m : ℕ). sliceVal (b, o) m ∷ []) (sym len), subst (Room R) (sym len) room) $ fjoin ! $
       nothing ! $ move ! (2 ∷ 0 ∷ []) $ fjoin ! $ owned ! Z.R (Is Z.R) (Z.makes 𝓤 H A W) w _ gw $ fjoin ! $
@@ -151,6 +153,9 @@ module _ {M : Type 1} (𝓤 : URA M) (H : Heap 𝓤) (A : Atoms 𝓤) (W : Given
     where
       is : SlotIs ys (plannedOf (loadOf ys) w ps) (channelSlotOf (channelOf ys w) ps)
       is = slot-is ys w ps
+
+      answers : r .answer ≡ channelSlotOf (channelOf ys w) ps .answer
+      answers = ap (λ (z : Called). z .answer) e ∙ is .answer
 
   walk : (𝓣 : Tables 𝓤 H) → Triple 𝓤 (𝓣 .C #channel·load) (Load 𝓤 H A mem run) → Triple 𝓤 (𝓣 .C #decisions·plan-slot) (PlanSlot 𝓤 H A mem run) → Triple 𝓤 (𝓣 .C #channel·step-all) (StepAll 𝓤 H A mem run)
       → ent 𝓤 (onEntry 𝓤 H A slot′.signature (κ, (κ′, tt)) (q, (q′, tt)) a mach) (WpFn 𝓤 H (𝓣 .C) (𝓣 .Λ) fn (sliceVal (b, o) (length ys) ∷ Z.val w ∷ sliceVal (b′, o′) (length ps) ∷ []) Post)

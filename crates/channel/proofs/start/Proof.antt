@@ -45,6 +45,8 @@ use Rattle.decisions.specs.declared.Beginning.{Beginning}
 use Rattle.decisions.specs.Deciding.{channelOf, beginningOf}
 use Rattle.channel.specs.Writing.{storeOf, length-store}
 use Rattle.rules.specs.ChannelCalls.{channelStartOf}
+use Rattle.rules.specs.Numbers.{startTold}
+use Rattle.rules.proofs.NumbersHold.{channel-start-told}
 use Rattle.decisions.proofs.Beginning.Laws as O′
 use Rattle.decisions.proofs.Begun.Laws as C′
 use Rattle.channel.proofs.StationValue.{R}
@@ -136,7 +138,7 @@ module _ {M : Type 1} (𝓤 : URA M) (H : Heap 𝓤) (A : Atoms 𝓤) (W : Given
   exits r e gr =
       qed W (‵ (fobs γ (codedHoleys R .code (heres R zs))) ∷ ‵ (fbor κ (Held R (length zs) b o γ)) ∷ ‵ (flft κ q) ∷ ‵ (flft κ′ q′) ∷ ‵ (ShrSlice (named 1) κ′ u16 .own x′ (mach .1 .1 .1 .1 .0)) ∷ []) ∵
       suffices ! _ (ends-at 𝓤 H A start′.ended stayed (start′.clauses 𝓤 H A mem run) W (((κ, (κ′, tt)), (q, (q′, tt)), tt, a, mach), tt) (C.val r) r (zs, (tt, (tt, (tt, (tt, tt))))) (len, (tt, (tt, (tt, (tt, tt)))))) $
-      says ! (is .stations, ap (λ (z : Begun). z .wire) e ∙ is .wire, ap (λ (z : Begun). z .answer) e ∙ is .answer) $
+      says ! (is .stations, ap (λ (z : Begun). z .wire) e ∙ is .wire, answers, ap startTold answers ∙ channel-start-told (channelOf ys w) m n ps) $
       nothing ! $ move ! (4 ∷ 0 ∷ []) $ join ! $ move ! (3 ∷ 0 ∷ []) $ join ! $ frame ! $
       fjoin ! $ pureI ! (at-slice R (x zs) (mach .0)) (tt, (tt, tt)) (ap (λ (m : ℕ). sliceVal (b, o) m ∷ []) (sym len), subst (Room R) (sym len) room) $ fjoin ! $
       nothing ! $ move ! (2 ∷ 0 ∷ []) $ fjoin ! $ owned ! u8 (Is u8) (uint-makes 𝓤 H A W w8) n _ (refl, n-fits) $ fjoin ! $ owned ! u8 (Is u8) (uint-makes 𝓤 H A W w8) m _ (refl, m-fits) $ fjoin ! $ owned ! Z.R (Is Z.R) (Z.makes 𝓤 H A W) w _ gw $ fjoin ! $
@@ -144,6 +146,9 @@ module _ {M : Type 1} (𝓤 : URA M) (H : Heap 𝓤) (A : Atoms 𝓤) (W : Given
     where
       is : StartIs ys (beginningOf (length ys) w m n ps) (channelStartOf (channelOf ys w) m n ps)
       is = start-is ys w m n ps
+
+      answers : r .answer ≡ channelStartOf (channelOf ys w) m n ps .answer
+      answers = ap (λ (z : Begun). z .answer) e ∙ is .answer
 
   walk : (𝓣 : Tables 𝓤 H) → Triple 𝓤 (𝓣 .C #decisions·begin) (Begin 𝓤 H A mem run) → Triple 𝓤 (𝓣 .C #channel·store) (Store 𝓤 H A mem run)
       → ent 𝓤 (onEntry 𝓤 H A start′.signature (κ, (κ′, tt)) (q, (q′, tt)) a mach) (WpFn 𝓤 H (𝓣 .C) (𝓣 .Λ) fn (sliceVal (b, o) (length ys) ∷ Z.val w ∷ vint w8 m ∷ vint w8 n ∷ sliceVal (b′, o′) (length ps) ∷ []) Post)

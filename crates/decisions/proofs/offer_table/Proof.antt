@@ -53,7 +53,7 @@ unfolding withOf
 returns-3 c = let a = c .before .before .before .before .before .before .before .before .before .before .args in
     let w : length (a .t1) ≡ 64 = search needs in
     let k = c .before .before .before .before .before .position-of .result in
-    rw (c .offer-answer .ensures, c .before .before .offer .ensures)
+    rw (c .offer-answer .ensures, c .before .before .offer .ensures .0)
     (offer-goes (of (a .t1) (a .n)) (a .wire) (a .index) (a .bytes) (omega arith) (omega arith) (sym (c .before .before .before .before .before .before .before .sound .ensures) ∙ c .before .before .before .before .before .before .if3 .taken) k (c .before .before .before .before .before .position-of .ensures) (c .before .before .before .before .if4 .taken) (getD (a .t1) k absent) (table-at (of (a .t1) (a .n)) k w (omega arith) (c .before .before .before .before .if4 .taken)))
 
 refuse-offer-requires-3 : tie.Need-refuse-offer-requires-3

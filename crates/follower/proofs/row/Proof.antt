@@ -69,7 +69,7 @@ listened-requires c κs = search needs
 returns-4 : tie.Need-returns-4
 returns-4 c =
     let a = c .before .before .before .before .before .before .before .before .before .before .before .before .before .before .before .args in
-    c .listened .ensures ∙ heard-row (a .f) (a .bytes .now) _ (c .before .before .before .before .before .before .before .before .before .before .before .before .before .row-fields .ensures) (c .before .before .before .before .before .before .before .before .before .before .before .if1 .left) (c .before .before .before .before .before .before .before .if2 .left) (c .before .before .before .before .before .before .if3 .left) _ (c .before .listen .ensures)
+    c .listened .ensures ∙ heard-row (a .f) (a .bytes .now) _ (c .before .before .before .before .before .before .before .before .before .before .before .before .before .row-fields .ensures) (c .before .before .before .before .before .before .before .before .before .before .before .if1 .left) (c .before .before .before .before .before .before .before .if2 .left) (c .before .before .before .before .before .before .if3 .left) _ (c .before .listen .ensures .0)
 
 pub row-spec : {M : Type 1} → statement M
 row-spec =

@@ -40,10 +40,10 @@ place-following-requires : tie.Need-place-following-requires
 place-following-requires c κs = search needs
 
 returns-3 : tie.Need-returns-3
-returns-3 c = rw (← c .before .before .before .before .start .ensures, c .before .before .answer .given .1) (c .refused3 .ensures)
+returns-3 c = rw (← c .before .before .before .before .start .ensures .0, c .before .before .answer .given .1) (c .refused3 .ensures)
 
 returns-4 : tie.Need-returns-4
-returns-4 c = rw (← c .before .before .before .before .start .ensures, c .before .before .enum-told .given .1, c .place-following .ensures)
+returns-4 c = rw (← c .before .before .before .before .start .ensures .0, c .before .before .enum-told .given .1, c .place-following .ensures)
 
 pub start-with-spec : {M : Type 1} → statement M
 start-with-spec =

@@ -2,6 +2,7 @@
 use borrow.Author.Needs.{needs}
 use Rattle.held.specs.Holding.{heldStartOf}
 use Rattle.held.proofs.Counts.{has-65, first-of, rest-of}
+use Rattle.held.proofs.Told.{start-both}
 use Rattle.held.proofs.start.Statement.{statement}
 use Rattle.held.proofs.start.Tie as tie
 
@@ -18,7 +19,7 @@ returns c =
     let h = b .before .before .before .before .before .args .c in
     let w = has-65 h _ (b .before .before .before .before .before .good .0) in
     let k = b .before .lent-count .ensures in
-    rw (b .start-lent .ensures, k, first-of (h .stations) w (h .count), rest-of (h .stations) w (h .count))
+    start-both _ _ _ _ (rw (b .start-lent .ensures, k, first-of (h .stations) w (h .count), rest-of (h .stations) w (h .count)))
 
 pub start-spec : {M : Type 1} → statement M
 start-spec = tie.close (tie.spec lent-count-requires start-lent-requires returns)

@@ -1,6 +1,7 @@
--- `listen` gives 18, or what the row's reading leads to. Assumes nothing.
+-- `listen` gives 18, or what the row's reading leads to; and so it answers the paper's number and turn. Assumes nothing.
 use mathlib.Core.Path.{_∙_, sym}
 use Rattle.rules.proofs.ListeningLaws.{listening-18, row-heard, listening-row}
+use Rattle.listener.proofs.Tells.{listens}
 use borrow.Author.Needs.{needs}
 use Rattle.listener.proofs.listen.Statement.{statement}
 use Rattle.listener.proofs.listen.Tie as tie
@@ -25,7 +26,8 @@ returns c =
     let words = a .words .now in
     let counts = a .counts .now in
     let w = sym (c .before .before .before .within .ensures) ∙ c .before .before .if1 .taken in
-    c .hear .ensures ∙ rw (c .before .read-row .ensures) (sym (listening-row (a .c) words counts w))
+    listens (a .c) words counts _
+    (c .hear .ensures ∙ rw (c .before .read-row .ensures) (sym (listening-row (a .c) words counts w)))
 
 refused-requires : tie.Need-refused-requires
 refused-requires c κs = search needs
@@ -35,7 +37,8 @@ returns-2 c =
     let a = c .before .before .before .before .before .args in
     let words = a .words .now in
     let counts = a .counts .now in
-    c .refused .ensures ∙ sym (listening-18 (a .c) words counts (sym (c .before .before .within .ensures) ∙ c .before .if1 .left))
+    listens (a .c) words counts _
+    (c .refused .ensures ∙ sym (listening-18 (a .c) words counts (sym (c .before .before .within .ensures) ∙ c .before .if1 .left)))
 
 pub listen-spec : {M : Type 1} → statement M
 listen-spec =

@@ -1,9 +1,10 @@
--- `listen_at` gives 18, or what the row's reading leads to. Assumes nothing.
+-- `listen_at` gives 18, or what the row's reading leads to; and so it answers the paper's number and turn. Assumes nothing.
 use mathlib.Core.Path.{_∙_, sym}
 use lib.ListN.{take, drop}
 use Rattle.minislot.specs.Row.{rowAtOf}
 use Rattle.rules.specs.Recorded.{listeningAtOf}
 use Rattle.rules.proofs.ListeningLaws.{listening-18, row-heard, listening-row}
+use Rattle.listener.proofs.Tells.{listens-at}
 use borrow.Author.Needs.{needs}
 use Rattle.listener.proofs.listen_at.Statement.{statement}
 use Rattle.listener.proofs.listen_at.Tie as tie
@@ -30,7 +31,8 @@ returns c =
     let words = take (a .c .minislots) (drop (a .start) (a .words .now)) in
     let counts = take (a .c .minislots) (drop (a .start) (a .counts .now)) in
     let w = sym (c .before .before .before .within .ensures) ∙ c .before .before .if1 .taken in
-    c .hear .ensures ∙ rw (c .before .read-row-at .ensures) (sym (listening-row (a .c) words counts w))
+    listens-at (a .c) (a .words .now) (a .counts .now) _ (a .start)
+    (c .hear .ensures ∙ rw (c .before .read-row-at .ensures) (sym (listening-row (a .c) words counts w)))
 
 refused-requires : tie.Need-refused-requires
 refused-requires c κs = search needs
@@ -41,7 +43,8 @@ returns-2 c =
     let a = c .before .before .before .before .before .args in
     let words = take (a .c .minislots) (drop (a .start) (a .words .now)) in
     let counts = take (a .c .minislots) (drop (a .start) (a .counts .now)) in
-    c .refused .ensures ∙ sym (listening-18 (a .c) words counts (sym (c .before .before .within .ensures) ∙ c .before .if1 .left))
+    listens-at (a .c) (a .words .now) (a .counts .now) _ (a .start)
+    (c .refused .ensures ∙ sym (listening-18 (a .c) words counts (sym (c .before .before .within .ensures) ∙ c .before .if1 .left)))
 
 pub listen-at-spec : {M : Type 1} → statement M
 listen-at-spec =

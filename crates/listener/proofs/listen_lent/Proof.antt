@@ -45,6 +45,9 @@ use denote.Triple.Walked.{says, Stays, stay-ref, stay-none-slice, walkOf, goes-r
 use Rattle.rules.specs.declared.Counters.{Counters}
 use Rattle.rules.specs.declared.Listened.{Listened}
 use Rattle.rules.specs.Listening.{listeningOf}
+use Rattle.rules.specs.Numbers.{listenTold}
+use Rattle.rules.specs.Answered.{listenToldOf}
+use Rattle.rules.proofs.NumbersHold.{listen-told}
 use Rattle.rules.proofs.Counters as C
 use Rattle.rules.proofs.Counters.Laws as C′
 use Rattle.rules.proofs.ListenAnswer as N
@@ -103,6 +106,10 @@ module _ {M : Type 1} (𝓤 : URA M) (H : Heap 𝓤) (A : Atoms 𝓤) (W : Given
   abbrev listened : Listened
   listened = listeningOf h (words .now) (counts .now)
 
+  -- what `listen` says of its result
+  abbrev Said : Listened → Type 0
+  Said r = (r ≡ listened) × (listenTold (r .answer) ≡ listenToldOf h (words .now) (counts .now))
+
   abbrev Arg : Type 0
   Arg = RefT Counters × (RefT (List ℕ) × (RefT (List ℕ) × Unit {0}))
 
@@ -141,14 +148,14 @@ module _ {M : Type 1} (𝓤 : URA M) (H : Heap 𝓤) (A : Atoms 𝓤) (W : Given
   tells v =
       qed W (later (some (λ (r : Listened). (Lifetimes ⊛ ‵ (D.the-row .own r (v ∷ []))) ⊛ raw (ensured 𝓤 H A listen′.ended (listen′.clauses 𝓤 H A at-mem run) (κ₁, (κ₂, tt)) (h, (words, (counts, tt))) tt r))) ∷ []) ∵
       updating ! $ await ! tt $ pick ! (λ r. split ! $ move ! (1 ∷ []) $
-      use1 W (raw (fact 𝓤 (r ≡ listened))) (exE 𝓤 _ (λ ws. snd∗ 𝓤 (sem 𝓤 H A (lasts listen′.ended (κ₁, (κ₂, tt)) (h, (words, (counts, tt))) ws)) (fact 𝓤 (r ≡ listened)))) $ heard ! (r ≡ listened) (λ p.
-      split ! $ move ! (1 ∷ []) $ rewrite ! 0 (λ (d : Listened). ‵ (D.the-row .own d (v ∷ []))) p refl $ peeks ! D.the-row (Is D.the-row) (shows 𝓤 H A D.the-row) listened (v ∷ []) (λ is. drop ! $ at-once ! $ frame ! $ check ! is $ done !)))
+      use1 W (raw (fact 𝓤 (Said r))) (exE 𝓤 _ (λ ws. snd∗ 𝓤 (sem 𝓤 H A (lasts listen′.ended (κ₁, (κ₂, tt)) (h, (words, (counts, tt))) ws)) (fact 𝓤 (Said r)))) $ heard ! (Said r) (λ p.
+      split ! $ move ! (1 ∷ []) $ rewrite ! 0 (λ (d : Listened). ‵ (D.the-row .own d (v ∷ []))) (p .0) refl $ peeks ! D.the-row (Is D.the-row) (shows 𝓤 H A D.the-row) listened (v ∷ []) (λ is. drop ! $ at-once ! $ frame ! $ check ! is $ done !)))
 
   exits : Is N.the-row (listened .answer) (answer ∷ []) → ent 𝓤 (⋆ 𝓤 H A (‵ (fobs γ (R .coded .code (listened .counters))) ∷ ‵ (fbor κ (Body (mem R) b o γ)) ∷ ‵ (flft κ q) ∷ Lifetimes ∷ ‵ Both ∷ [])) (Post answer)
   exits is =
       qed W (‵ (fobs γ (R .coded .code (listened .counters))) ∷ ‵ (fbor κ (Body (mem R) b o γ)) ∷ ‵ (flft κ q) ∷ Lifetimes ∷ ‵ Both ∷ []) ∵
       suffices ! _ (ends-at 𝓤 H A lent′.ended stayed (lent′.clauses 𝓤 H A at-mem run) W (((κ, (κ₁, (κ₂, tt))), (q, (q₁, (q₂, tt))), tt, a, mach), tt) answer (listened .answer) (listened .counters, (tt, (tt, tt))) (tt, (tt, (tt, tt)))) $
-      says ! (refl, refl) $ move ! (2 ∷ 3 ∷ []) $ join ! $ frame ! $
+      says ! (refl, refl, listen-told h (words .now) (counts .now)) $ move ! (2 ∷ 3 ∷ []) $ join ! $ frame ! $
       feqI ! (List Val) (vptr b o ∷ []) (vptr b o ∷ []) refl $ fjoin3 ! $ fjoin ! $
       frame ! $ owned ! N.the-row (Is N.the-row) (EL.makes N.the-type N′.the-plain 𝓤 H A) (listened .answer) _ is $ done !
 

@@ -1,7 +1,8 @@
--- `start` gives the record at the start, or 5 by the four tests of the ranges. Assumes nothing.
+-- `start` gives the record at the start, or 5 by the four tests of the ranges; and so it answers the paper's number. Assumes nothing.
 use native.Mathlib.Omega.{arith}
 use borrow.Author.Tests.{le-leb, lt-leb}
 use Rattle.rules.specs.Starting.{startOf}
+use Rattle.listener.proofs.Tells.{starts}
 use borrow.Author.Needs.{needs}
 use Rattle.listener.proofs.start.Statement.{statement}
 use Rattle.listener.proofs.start.Tie as tie
@@ -11,35 +12,35 @@ refused-start-requires c κs = search needs
 
 returns : tie.Need-returns
 unfolding startOf
-returns c = rw (lt-leb 2 (c .before .before .args .m) (omega arith)) (c .refused-start .ensures)
+returns c = starts _ _ _ (rw (lt-leb 2 (c .before .before .args .m) (omega arith)) (c .refused-start .ensures))
 
 refused-start-requires-2 : tie.Need-refused-start-requires-2
 refused-start-requires-2 c κs = search needs
 
 returns-2 : tie.Need-returns-2
 unfolding startOf
-returns-2 c = rw (le-leb 2 (c .before .before .before .args .m) (omega arith), lt-leb (c .before .before .before .args .m) 8 (omega arith)) (c .refused-start2 .ensures)
+returns-2 c = starts _ _ _ (rw (le-leb 2 (c .before .before .before .args .m) (omega arith), lt-leb (c .before .before .before .args .m) 8 (omega arith)) (c .refused-start2 .ensures))
 
 refused-start-requires-3 : tie.Need-refused-start-requires-3
 refused-start-requires-3 c κs = search needs
 
 returns-3 : tie.Need-returns-3
 unfolding startOf
-returns-3 c = rw (le-leb 2 (c .before .before .before .before .args .m) (omega arith), le-leb (c .before .before .before .before .args .m) 8 (omega arith), lt-leb 1 (c .before .before .before .before .args .n) (omega arith)) (c .refused-start3 .ensures)
+returns-3 c = starts _ _ _ (rw (le-leb 2 (c .before .before .before .before .args .m) (omega arith), le-leb (c .before .before .before .before .args .m) 8 (omega arith), lt-leb 1 (c .before .before .before .before .args .n) (omega arith)) (c .refused-start3 .ensures))
 
 refused-start-requires-4 : tie.Need-refused-start-requires-4
 refused-start-requires-4 c κs = search needs
 
 returns-4 : tie.Need-returns-4
 unfolding startOf
-returns-4 c = rw (le-leb 2 (c .before .before .before .before .before .args .m) (omega arith), le-leb (c .before .before .before .before .before .args .m) 8 (omega arith), le-leb 1 (c .before .before .before .before .before .args .n) (omega arith), lt-leb (c .before .before .before .before .before .args .n) 8 (omega arith)) (c .refused-start4 .ensures)
+returns-4 c = starts _ _ _ (rw (le-leb 2 (c .before .before .before .before .before .args .m) (omega arith), le-leb (c .before .before .before .before .before .args .m) 8 (omega arith), le-leb 1 (c .before .before .before .before .before .args .n) (omega arith), lt-leb (c .before .before .before .before .before .args .n) 8 (omega arith)) (c .refused-start4 .ensures))
 
 start-requires : tie.Need-start-requires
 start-requires c κs = search needs
 
 returns-5 : tie.Need-returns-5
 unfolding startOf
-returns-5 c = rw (le-leb 2 (c .before .before .before .before .before .args .m) (omega arith), le-leb (c .before .before .before .before .before .args .m) 8 (omega arith), le-leb 1 (c .before .before .before .before .before .args .n) (omega arith), le-leb (c .before .before .before .before .before .args .n) 8 (omega arith), c .start .ensures)
+returns-5 c = starts _ _ _ (rw (le-leb 2 (c .before .before .before .before .before .args .m) (omega arith), le-leb (c .before .before .before .before .before .args .m) 8 (omega arith), le-leb 1 (c .before .before .before .before .before .args .n) (omega arith), le-leb (c .before .before .before .before .before .args .n) 8 (omega arith), c .start .ensures))
 
 pub start-spec : {M : Type 1} → statement M
 start-spec =

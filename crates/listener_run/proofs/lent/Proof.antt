@@ -47,6 +47,8 @@ use Rattle.rules.specs.declared.Counters.{Counters}
 use Rattle.rules.specs.declared.ListenAnswer.{ListenAnswer}
 use Rattle.rules.specs.declared.Listened.{Listened}
 use Rattle.rules.specs.Listening.{listeningOf}
+use Rattle.rules.specs.Numbers.{listenTold}
+use Rattle.rules.specs.Answered.{listenToldOf}
 use Rattle.rules.proofs.Counters as C
 use Rattle.rules.proofs.Counters.Laws as C′
 use Rattle.rules.proofs.ListenAnswer as N
@@ -105,6 +107,10 @@ module _ {M : Type 1} (𝓤 : URA M) (H : Heap 𝓤) (A : Atoms 𝓤) (W : Given
   abbrev listened : Listened
   listened = listeningOf h (words .now) (counts .now)
 
+  -- what `listen_lent` says of its answer and of the record as it leaves it
+  abbrev Said : ListenAnswer → Counters → Type 0
+  Said r z = (r ≡ listened .answer) × (z ≡ listened .counters) × (listenTold r ≡ listenToldOf h (words .now) (counts .now))
+
   abbrev result : Val
   result = LL.val D.the-type D′.the-laws listened
 
@@ -159,8 +165,8 @@ module _ {M : Type 1} (𝓤 : URA M) (H : Heap 𝓤) (A : Atoms 𝓤) (W : Given
     tells v =
         qed W (later (some (λ (r : ListenAnswer). (All ⊛ ‵ (N.the-row .own r (v ∷ []))) ⊛ raw (ensured 𝓤 H A callee′.ended (callee′.clauses 𝓤 H A at-mem run) (ν ∷ [], (κ₁, (κ₂, tt))) (loan, (words, (counts, tt))) tt r))) ∷ []) ∵
         updating ! $ await ! tt $ pick ! (λ r. split ! $ move ! (1 ∷ []) $
-        use1 W (some (λ (zs : Counters × (Unit {0} × (Unit {0} × Unit {0}))). ‵ (lasts callee′.ended (ν ∷ [], (κ₁, (κ₂, tt))) (loan, (words, (counts, tt))) zs) ⊛ raw (fact 𝓤 ((r ≡ listened .answer) × (zs .0 ≡ listened .counters))))) (id⊢ 𝓤 _) $ pick ! (λ zs.
-        split ! $ move ! (1 ∷ []) $ heard ! ((r ≡ listened .answer) × (zs .0 ≡ listened .counters)) (λ e. fsplit ! $ rewrite ! 0 (λ (c : Counters). ‵ (fres δ (R .coded .code c))) (e .1) refl $
+        use1 W (some (λ (zs : Counters × (Unit {0} × (Unit {0} × Unit {0}))). ‵ (lasts callee′.ended (ν ∷ [], (κ₁, (κ₂, tt))) (loan, (words, (counts, tt))) zs) ⊛ raw (fact 𝓤 (Said r (zs .0))))) (id⊢ 𝓤 _) $ pick ! (λ zs.
+        split ! $ move ! (1 ∷ []) $ heard ! (Said r (zs .0)) (λ e. fsplit ! $ rewrite ! 0 (λ (c : Counters). ‵ (fres δ (R .coded .code c))) (e .1) refl $
         -- [the last record; …; the tokens and the answer]
         move ! (2 ∷ []) $ split ! $ move ! (1 ∷ []) $ rewrite ! 0 (λ (x : ListenAnswer). ‵ (N.the-row .own x (v ∷ []))) (e .0) refl $ peeks ! N.the-row (Is N.the-row) (shows 𝓤 H A N.the-row) (listened .answer) (v ∷ []) (λ is.
         drop ! $ at-once ! $ frame ! $ frame ! $ drop ! $ check ! is $ done !))))

@@ -39,11 +39,11 @@ given message j f w end h =
 taken : (c : tie.After-known-told)
     → (fitsMessage (length (c .before .before .before .before .before .args .message .now)) ≡ true)
     × (slotsFor (length (c .before .before .before .before .before .args .message .now)) ≡ c .before .total .given .0 .0)
-taken c = taken-from _ _ (sym (c .before .before .before .slots .ensures) ∙ c .before .total .given .1)
+taken c = taken-from _ _ (sym (c .before .before .before .slots .ensures .0) ∙ c .before .total .given .1)
 
 -- in the `else`, it does not fit
 untaken : (c : tie.After-enum-told) → fitsMessage (length (c .before .before .before .before .args .message .now)) ≡ false
-untaken c = (refused-from _ _ (sym (c .before .before .slots .ensures) ∙ c .enum-told .given .1)) .0
+untaken c = (refused-from _ _ (sym (c .before .before .slots .ensures .0) ∙ c .enum-told .given .1)) .0
 
 -- a segment starts within the message
 starts : (c : tie.Else2)

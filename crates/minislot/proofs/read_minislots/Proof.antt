@@ -57,7 +57,7 @@ refused-requires c κs =
     omega (
       arith,
       c .number-of .ensures ∙ ap numberOf (told .1),
-      refusal-number _ _ _ (sym (c .before .before .before .read .ensures) ∙ told .1),
+      refusal-number _ _ _ (sym (c .before .before .before .read .ensures .0) ∙ told .1),
     )
 
 returns : tie.Need-returns Inv-loop μ-loop
@@ -67,11 +67,11 @@ returns c =
     let a = c .before .before .before .before .before .before .before .before .before .before .before in
     let number = c .before .number-of .ensures ∙ ap numberOf (told .1) in
     let here = readings-at (a .args .words .now) (a .args .counts .now) (l .j) (Refused 0) (omega arith) (omega arith)
-    ∙ sym (c .before .before .before .before .read .ensures) ∙ told .1 in
+    ∙ sym (c .before .before .before .before .read .ensures .0) ∙ told .1 in
     let first = refused-first (readings (a .args .words .now) (a .args .counts .now)) (l .j) (told .0 .0) (Refused 0)
     (omega (arith, readings-length (a .args .words .now) (a .args .counts .now) (omega arith))) here (l .inv .2) in
     c .refused .ensures ∙ rw number (refused-answer (a .args .words .now) (a .args .counts .now) (told .0 .0)
-    (refusal-number _ _ _ (sym (c .before .before .before .before .read .ensures) ∙ told .1) .0) first)
+    (refusal-number _ _ _ (sym (c .before .before .before .before .read .ensures .0) ∙ told .1) .0) first)
 
 mul-minislots : tie.Need-mul-minislots Inv-loop μ-loop
 mul-minislots c = search needs
@@ -100,7 +100,7 @@ loop-again c =
     let n : l .j < length rs = omega (arith, readings-length (a .args .words .now) (a .args .counts .now) (omega arith)) in
     let here : getD rs (l .j) (Refused 0) ≡ Heard f =
     readings-at (a .args .words .now) (a .args .counts .now) (l .j) (Refused 0) (omega arith) (omega arith)
-    ∙ sym (c .before .before .before .before .read .ensures) ∙ c .before .before .answer .given .1 in (
+    ∙ sym (c .before .before .before .before .read .ensures .0) ∙ c .before .before .answer .given .1 in (
       omega arith,
       omega (arith, c .weight-of .ensures, weight-few f),
       rw add-one (heard-count rs (l .j) f (Refused 0) n here (l .inv .2)),

@@ -8,6 +8,7 @@ use Rattle.minislot.specs.declared.RowReading.{RowReading}
 use Rattle.minislot.specs.Row.{rowAtOf}
 use Rattle.rules.specs.Recorded.{slotAtOf}
 use Rattle.rules.proofs.StationLaws.{slot-18, whole-row, slot-row, row-inside}
+use Rattle.station.proofs.Told.{slot-at-both}
 use borrow.Author.Needs.{needs}
 use Rattle.station.proofs.slot_at.Statement.{statement}
 use Rattle.station.proofs.slot_at.Tie as tie
@@ -30,7 +31,7 @@ returns c =
     let words = take m (drop (a .start) (a .words .now)) in
     let counts = take m (drop (a .start) (a .counts .now)) in
     let six = ap (λ (r : RowReading). r .number) (sym (c .before .before .before .read-row-at .ensures)) ∙ c .before .if2 .taken in
-    c .refused-slot .ensures ∙ rw (eq-eqb _ _ six) at (slot-row (a .s) words counts (a .pick) within)
+    slot-at-both _ _ _ _ _ (c .refused-slot .ensures ∙ rw (eq-eqb _ _ six) at (slot-row (a .s) words counts (a .pick) within))
 
 cast-end : tie.Need-cast-end
 cast-end c = search needs
@@ -85,7 +86,7 @@ returns-2 c =
     let words = take m (drop (a .start) (a .words .now)) in
     let counts = take m (drop (a .start) (a .counts .now)) in
     let d : a .start + m - a .start ≡ m = omega arith in
-    c .hear .ensures ∙ rw (c .before .before .before .before .before .read-row-at .ensures, d) (slot-row (a .s) words counts (a .pick) within)
+    slot-at-both _ _ _ _ _ (c .hear .ensures ∙ rw (c .before .before .before .before .before .read-row-at .ensures, d) (slot-row (a .s) words counts (a .pick) within))
 
 refused-slot-requires-2 : tie.Need-refused-slot-requires-2
 refused-slot-requires-2 c κs = search needs
@@ -98,7 +99,7 @@ returns-3 c =
     let m = a .s .counters .minislots in
     let words = take m (drop (a .start) (a .words .now)) in
     let counts = take m (drop (a .start) (a .counts .now)) in
-    c .refused-slot2 .ensures ∙ slot-18 (a .s) words counts (a .pick) within
+    slot-at-both _ _ _ _ _ (c .refused-slot2 .ensures ∙ slot-18 (a .s) words counts (a .pick) within)
 
 pub slot-at-spec : {M : Type 1} → statement M
 slot-at-spec =
