@@ -22,7 +22,7 @@ fn counters(groups: u8, urgent: u16, long: u16, resolution: u16) -> Counters {
     }
 }
 
-pub fn first_64(stations: [Station; 65]) -> [Station; 64] {
+pub(crate) fn first_64(stations: [Station; 65]) -> [Station; 64] {
     let blank = stations[0];
     let mut table = [blank; 64];
     let mut k: usize = 0;
@@ -166,7 +166,7 @@ fn asking(c: Channel, kind: u64, words: [u16; 924]) -> Channel {
 
 // 0: all free. 1: all urgent. 2: all long. 3: all resolving, 32 places of two. 4: all asked in one minislot. 5: all asked, one in each minislot of eight
 // groups. 6: full counters, any condition.
-pub fn table_of(kind: u64, groups: u8) -> Channel {
+pub(crate) fn table_of(kind: u64, groups: u8) -> Channel {
     let shared = counters_of(kind, groups);
     let mut c = blank(64);
     let mut k: usize = 0;

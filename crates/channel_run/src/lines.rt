@@ -12,14 +12,14 @@ use rules::Row;
 use rules::StartAnswer;
 use tables::least;
 
-pub fn start_line(answer: StartAnswer) {
+pub(crate) fn start_line(answer: StartAnswer) {
     match answer {
         StartAnswer::Ready => text(b"ready\n"),
         StartAnswer::Refused(number) => refused_line(number),
     }
 }
 
-pub fn call_line(answer: Answer) {
+pub(crate) fn call_line(answer: Answer) {
     match answer {
         Answer::Refused(number) => refused_line(number),
         Answer::Taken(total) => {
@@ -87,7 +87,7 @@ fn wire_lines(wire: [Row; 8]) {
     }
 }
 
-pub fn table_lines(c: Channel) {
+pub(crate) fn table_lines(c: Channel) {
     let stations = c.stations;
     let wire = c.wire;
     let end = least(c.count, 65);

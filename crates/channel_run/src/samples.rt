@@ -8,7 +8,7 @@ use tables::with_minislot;
 use tables::with_station;
 
 // Counters of two minislots and two groups, the first being next, by H, N and the two RQ.
-pub fn counts(urgent: u16, long: u16, first: u16, second: u16) -> Counters {
+pub(crate) fn counts(urgent: u16, long: u16, first: u16, second: u16) -> Counters {
     let mut resolution = [0u16; 8];
     resolution[0] = first;
     resolution[1] = second;
@@ -24,19 +24,19 @@ pub fn counts(urgent: u16, long: u16, first: u16, second: u16) -> Counters {
 }
 
 // The base's counters, but of three minislots; with the second group next; with the first group's mark no.
-pub fn of_three() -> Counters {
+pub(crate) fn of_three() -> Counters {
     let mut c = counts(1, 3, 1, 0);
     c.minislots = 3;
     c
 }
 
-pub fn of_group_2() -> Counters {
+pub(crate) fn of_group_2() -> Counters {
     let mut c = counts(1, 3, 1, 0);
     c.next = 2;
     c
 }
 
-pub fn not_open() -> Counters {
+pub(crate) fn not_open() -> Counters {
     let mut c = counts(1, 3, 1, 0);
     let mut opened = [true; 8];
     opened[0] = false;
@@ -44,7 +44,7 @@ pub fn not_open() -> Counters {
     c
 }
 
-pub fn station(counters: Counters, index: u16, condition: Condition) -> Station {
+pub(crate) fn station(counters: Counters, index: u16, condition: Condition) -> Station {
     Station {
         counters,
         index,
@@ -52,7 +52,7 @@ pub fn station(counters: Counters, index: u16, condition: Condition) -> Station 
     }
 }
 
-pub fn asked(group: u8, minislot: u8, total: u8) -> Condition {
+pub(crate) fn asked(group: u8, minislot: u8, total: u8) -> Condition {
     Condition::Asked {
         group,
         minislot,
@@ -60,7 +60,7 @@ pub fn asked(group: u8, minislot: u8, total: u8) -> Condition {
     }
 }
 
-pub fn resolving(group: u8, place: u16, total: u8) -> Condition {
+pub(crate) fn resolving(group: u8, place: u16, total: u8) -> Condition {
     Condition::Resolving {
         group,
         place,
@@ -68,13 +68,13 @@ pub fn resolving(group: u8, place: u16, total: u8) -> Condition {
     }
 }
 
-pub fn stretch(first: u16, left: u8, total: u8) -> Condition {
+pub(crate) fn stretch(first: u16, left: u8, total: u8) -> Condition {
     Condition::Long { first, left, total }
 }
 
 // Six stations of two groups, in every condition but fresh: one urgent, one with three slots of the long queue, two at place 1 of group 1's
 // resolution queue, one that asked group 2 for five slots in minislot 1, one free.
-pub fn base() -> Channel {
+pub(crate) fn base() -> Channel {
     let k = counts(1, 3, 1, 0);
     let c = with_station(blank(6), 0, station(k, 100, Condition::Urgent { place: 1 }));
     let c = with_station(c, 1, station(k, 200, stretch(1, 3, 3)));
@@ -86,7 +86,7 @@ pub fn base() -> Channel {
 }
 
 // 65 indexes from one on.
-pub fn indexes_from(first: u16) -> [u16; 65] {
+pub(crate) fn indexes_from(first: u16) -> [u16; 65] {
     let mut indexes = [0u16; 65];
     let mut k: usize = 0;
     let mut index = first % 1000;

@@ -8,7 +8,7 @@ use rules::Station;
 use rules::Turn;
 use tables::least;
 
-pub fn add(d: u64, x: u64) -> u64 {
+pub(crate) fn add(d: u64, x: u64) -> u64 {
     (d % 1000000007 * 31 + x % 1000000007) % 1000000007
 }
 
@@ -30,7 +30,7 @@ fn turn_number(t: Turn) -> u8 {
 }
 
 // Refused: 1 and the number. Taken: 2 and the slots. Went: 3, the turn, data senders, index, segment, delivered.
-pub fn answer_digest(d: u64, answer: Answer) -> u64 {
+pub(crate) fn answer_digest(d: u64, answer: Answer) -> u64 {
     match answer {
         Answer::Refused(number) => add8(add(d, 1), number),
         Answer::Taken(total) => add8(add(d, 2), total),
@@ -127,7 +127,7 @@ fn wire_digest(d: u64, wire: [Row; 8]) -> u64 {
 }
 
 // Every station's record, then the wire.
-pub fn channel_digest(d: u64, c: Channel) -> u64 {
+pub(crate) fn channel_digest(d: u64, c: Channel) -> u64 {
     let stations = c.stations;
     let wire = c.wire;
     let end = least(c.count, 65);

@@ -35,11 +35,11 @@ const TAKEN: usize = 12;
 
 const DELIVERED: usize = 13;
 
-pub struct Totals {
+pub(crate) struct Totals {
     pub sums: [u64; 14],
 }
 
-pub fn no_totals() -> Totals {
+pub(crate) fn no_totals() -> Totals {
     Totals { sums: [0u64; 14] }
 }
 
@@ -77,7 +77,7 @@ fn turn_place(t: Turn) -> usize {
     }
 }
 
-pub fn counted(t: Totals, answer: Answer) -> Totals {
+pub(crate) fn counted(t: Totals, answer: Answer) -> Totals {
     match answer {
         Answer::Refused(number) => grown(t, refusal_place(number), 1),
         Answer::Taken(total) => grown(grown(t, MESSAGES, 1), TAKEN, total as u64),
@@ -135,7 +135,7 @@ fn waiting(c: Channel) -> u64 {
 }
 
 // All totals, in the order of their places, and what waits.
-pub fn totals_text(t: Totals, c: Channel) {
+pub(crate) fn totals_text(t: Totals, c: Channel) {
     let sums = t.sums;
     let mut i: usize = 0;
     while i < 14 {
