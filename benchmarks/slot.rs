@@ -1,10 +1,13 @@
 // Times one slot of a channel under load, the test of its table and the step that is left, each as a difference of two runs of the static library `bench`.
-// With arguments it makes one run and prints its digest, for counting instructions: `load ROUNDS SLOTS PICKS CHECKS` or `check KIND GROUPS TIMES`.
+// With arguments it makes one run and prints its digest, for counting instructions: `load ROUNDS SLOTS PICKS CHECKS`, `check KIND GROUPS TIMES`,
+// `read TIMES` (minislots) or `index TIMES` (words).
 use std::time::Instant;
 
 unsafe extern "C" {
     fn bench_load(rounds: u64, slots: u64, picks: u64, checks: u64) -> u64;
     fn bench_check(kind: u64, groups: u8, times: u64) -> u64;
+    fn bench_read(times: u64) -> u64;
+    fn bench_index(times: u64) -> u64;
 }
 
 fn load(rounds: u64, slots: u64, picks: u64, checks: u64) -> u64 {
@@ -17,20 +20,30 @@ fn check(kind: u64, groups: u8, times: u64) -> u64 {
     unsafe { bench_check(kind, groups, times) }
 }
 
-/// The shortest of 60 runs, in nanoseconds.
-fn shortest(run: impl Fn() -> u64) -> f64 {
-    let mut least = f64::INFINITY;
-    for _ in 0..60 {
-        let start = Instant::now();
-        std::hint::black_box(run());
-        least = least.min(start.elapsed().as_nanos() as f64);
-    }
-    least
+fn read(times: u64) -> u64 {
+    // the same
+    unsafe { bench_read(times) }
 }
 
-/// Nanoseconds of one more of what `run` repeats in each round.
+fn index(times: u64) -> u64 {
+    // the same
+    unsafe { bench_index(times) }
+}
+
+fn nanoseconds(run: impl Fn() -> u64) -> f64 {
+    let start = Instant::now();
+    std::hint::black_box(run());
+    start.elapsed().as_nanos() as f64
+}
+
+/// Nanoseconds of one more of what `run` repeats in each round: the shortest of 200 runs with few and of 200 with many, taken in turn.
 fn cost(rounds: u64, again: u64, run: impl Fn(u64) -> u64) -> f64 {
-    (shortest(|| run(1 + again)) - shortest(|| run(1))) / (rounds * again) as f64
+    let (mut few, mut many) = (f64::INFINITY, f64::INFINITY);
+    for _ in 0..200 {
+        few = few.min(nanoseconds(|| run(1)));
+        many = many.min(nanoseconds(|| run(1 + again)));
+    }
+    (many - few) / (rounds * again) as f64
 }
 
 fn main() {
@@ -39,12 +52,16 @@ fn main() {
     match (words.first().map(String::as_str), numbers.as_slice()) {
         (Some("load"), &[rounds, slots, picks, checks]) => println!("{}", load(rounds, slots, picks, checks)),
         (Some("check"), &[kind, groups, times]) => println!("{}", check(kind, groups as u8, times)),
+        (Some("read"), &[times]) => println!("{}", read(times)),
+        (Some("index"), &[times]) => println!("{}", index(times)),
         _ => {
             let (rounds, again) = (100, 20);
             let picks = cost(rounds, again, |k| load(rounds, 0, k, 0));
             let slot = cost(rounds, again, |k| load(rounds, k, 0, 0)) - picks;
             let test = cost(rounds, again, |k| load(rounds, 0, 0, k));
             println!("slot {slot:.0} ns, of which test {test:.0} ns, step {:.0} ns", slot - test);
+            println!("minislot read {:.1} ns", cost(1, 100_000, read));
+            println!("index of a word {:.1} ns", cost(1, 100_000, index));
         }
     }
 }
