@@ -1,12 +1,12 @@
 // Tables of 64 stations of one kind each.
-use arrivals::draw;
-use held::Channel;
+use local_channel::LocalChannel;
 use rules::Condition;
 use rules::Counters;
 use rules::Station;
-use tables::blank;
-use tables::with_minislot;
-use tables::with_station;
+use runs_arrivals::draw;
+use runs_tables::blank;
+use runs_tables::with_minislot;
+use runs_tables::with_station;
 
 fn counters(groups: u8, urgent: u16, long: u16, resolution: u16) -> Counters {
     let mut queues = [0u16; 8];
@@ -139,7 +139,7 @@ fn full(groups: u8) -> Counters {
 // ---- the wire that belongs to a table
 
 // One more word in minislot j of group g, both from 0.
-fn joined(c: Channel, g: usize, j: usize, word: u16) -> Channel {
+fn joined(c: LocalChannel, g: usize, j: usize, word: u16) -> LocalChannel {
     let wire = c.wire;
     if g < 8 {
         let row = wire[g];
@@ -152,7 +152,7 @@ fn joined(c: Channel, g: usize, j: usize, word: u16) -> Channel {
     c
 }
 
-fn asking(c: Channel, kind: u64, words: [u16; 924]) -> Channel {
+fn asking(c: LocalChannel, kind: u64, words: [u16; 924]) -> LocalChannel {
     let mut c = c;
     let mut k: usize = 0;
     while k < 64 {
@@ -164,9 +164,9 @@ fn asking(c: Channel, kind: u64, words: [u16; 924]) -> Channel {
     c
 }
 
-// 0: all free. 1: all urgent. 2: all long. 3: all resolving, 32 places of two. 4: all asked in one minislot. 5: all asked, one in each minislot of eight
-// groups. 6: full counters, any condition.
-pub(crate) fn table_of(kind: u64, groups: u8) -> Channel {
+// 0: all free. 1: all urgent. 2: all long. 3: all resolving, 32 places of two. 4: all asked in one minislot. 5: all asked, one in each
+// minislot of eight groups. 6: full counters, any condition.
+pub(crate) fn table_of(kind: u64, groups: u8) -> LocalChannel {
     let shared = counters_of(kind, groups);
     let mut c = blank(64);
     let mut k: usize = 0;

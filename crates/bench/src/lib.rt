@@ -1,23 +1,23 @@
-// What the benchmark calls: channels of 64 stations under load, with calls repeated on the state as it is, so that the cost of one call is a difference
-// of two runs; and the test of a sound table on tables of each kind.
+// What the benchmark calls: channels of 64 stations under load, with calls repeated on the state as it is, so that the cost of one call is
+// a difference of two runs; and the test of a sound table on tables of each kind.
 mod kinds;
 
-use arrivals::ARRIVES;
-use arrivals::draw;
-use arrivals::picks_of;
-use arrivals::size;
-use held::Channel;
 use kinds::first_64;
 use kinds::table_of;
+use local_channel::LocalChannel;
 use minislot::Feedback;
 use minislot::Reading;
 use minislot::read;
 use pattern::index_of;
 use rules::Answer;
-use rules::Row;
 use rules::Station;
+use rules::WireRow;
+use runs_arrivals::ARRIVES;
+use runs_arrivals::draw;
+use runs_arrivals::picks_of;
+use runs_arrivals::size;
+use runs_tables::blank;
 use soundness::sound;
-use tables::blank;
 
 // A sum that can't pass the type's limit.
 fn plus(d: u64, x: u64) -> u64 {
@@ -41,25 +41,25 @@ fn digest_of(answer: Answer) -> u64 {
 // ---- a channel under load
 
 // 64 stations, three minislots, one group.
-fn started() -> Channel {
+fn started() -> LocalChannel {
     let mut indexes = [0u16; 64];
     let mut k: usize = 0;
     while k < 64 {
         indexes[k] = (k % 64) as u16 * 14;
         k += 1;
     }
-    let r = held::start(blank(64), 3, 1, &indexes);
+    let r = local_channel::start(blank(64), 3, 1, &indexes);
     r.channel
 }
 
 // One station in eight is offered a message; most are not free.
-fn arrived(c: Channel, s: u64) -> Channel {
+fn arrived(c: LocalChannel, s: u64) -> LocalChannel {
     let mut c = c;
     let mut k: usize = 0;
     while k < 64 {
         let station = k as u64;
         if draw(s, station, ARRIVES, 8) == 0 {
-            let r = held::offer(c, (k % 64) as u16 * 14, size(s, station));
+            let r = local_channel::offer(c, (k % 64) as u16 * 14, size(s, station));
             c = r.channel;
         }
         k += 1;
@@ -68,12 +68,12 @@ fn arrived(c: Channel, s: u64) -> Channel {
 }
 
 // The same slot again, with other picks; what it leaves is thrown away.
-fn slots_again(c: Channel, times: u64) -> u64 {
+fn slots_again(c: LocalChannel, times: u64) -> u64 {
     let mut d: u64 = 0;
     let mut i: u64 = 0;
     while i < times {
         let picks = picks_of(i, 3);
-        let r = held::slot(c, &picks[0..64]);
+        let r = local_channel::slot(c, &picks[0..64]);
         let answer = r.answer;
         d = plus(d, digest_of(answer));
         i += 1;
@@ -95,7 +95,7 @@ fn picks_again(times: u64) -> u64 {
 }
 
 // The test of a sound table again.
-fn checks_again(stations: [Station; 64], wire: [Row; 8], times: u64) -> u64 {
+fn checks_again(stations: [Station; 64], wire: [WireRow; 8], times: u64) -> u64 {
     let mut d: u64 = 0;
     let mut i: u64 = 0;
     while i < times {
@@ -106,7 +106,7 @@ fn checks_again(stations: [Station; 64], wire: [Row; 8], times: u64) -> u64 {
     d
 }
 
-fn all_again(c: Channel, slots: u64, picks: u64, checks: u64) -> u64 {
+fn all_again(c: LocalChannel, slots: u64, picks: u64, checks: u64) -> u64 {
     let stations = c.stations;
     let wire = c.wire;
     let table = first_64(stations);
@@ -115,9 +115,9 @@ fn all_again(c: Channel, slots: u64, picks: u64, checks: u64) -> u64 {
 }
 
 // One round of a channel under load: arrivals, calls again, a slot.
-fn round(c: Channel, s: u64) -> Channel {
+fn round(c: LocalChannel, s: u64) -> LocalChannel {
     let picks = picks_of(s, 3);
-    let r = held::slot(arrived(c, s), &picks[0..64]);
+    let r = local_channel::slot(arrived(c, s), &picks[0..64]);
     r.channel
 }
 

@@ -1,23 +1,5 @@
--- What the walks over the lent table share.
-mod After
-mod Value
-pub mod Lent
-pub mod StationValue
-mod LoadedValue
-mod PlanValue
+-- The walks of the calls: the data and the functions that they use; and demand 3 of every run of the calls.
+pub mod Values
 mod Uses
 mod Loans
-mod Calls
-mod Sends
-mod Slots
-mod RowValue
-pub mod CalledValue
-pub mod BegunValue
-mod OfferedValue
-mod BeginningValue
-mod PlannedValue
-pub mod WireValue
-mod Passed
 pub mod Chain
-pub mod Cells
-mod StationsValue

@@ -1,32 +1,21 @@
 // Tables and answers as lines.
-use held::Channel;
-use printing::field;
-use printing::field8;
-use printing::field16;
-use printing::record_line;
-use printing::refused_line;
-use printing::text;
-use printing::turn_text;
+use local_channel::LocalChannel;
 use rules::Answer;
-use rules::Row;
-use rules::StartAnswer;
-use tables::least;
-
-pub(crate) fn start_line(answer: StartAnswer) {
-    match answer {
-        StartAnswer::Ready => text(b"ready\n"),
-        StartAnswer::Refused(number) => refused_line(number),
-    }
-}
+use rules::WireRow;
+use runs_records::record_line;
+use runs_records::taken_line;
+use runs_records::turn_text;
+use runs_tables::least;
+use runs_text::field;
+use runs_text::field8;
+use runs_text::field16;
+use runs_text::refused_line;
+use runs_text::text;
 
 pub(crate) fn call_line(answer: Answer) {
     match answer {
         Answer::Refused(number) => refused_line(number),
-        Answer::Taken(total) => {
-            text(b"taken");
-            field8(total);
-            text(b"\n");
-        }
+        Answer::Taken(total) => taken_line(total),
         Answer::Went {
             turn,
             senders,
@@ -45,7 +34,7 @@ pub(crate) fn call_line(answer: Answer) {
     }
 }
 
-fn is_silent(row: Row) -> bool {
+fn is_silent(row: WireRow) -> bool {
     let minislots = row.minislots;
     let mut silent = true;
     let mut j: usize = 0;
@@ -62,7 +51,7 @@ fn is_silent(row: Row) -> bool {
     silent
 }
 
-fn row_line(g: usize, row: Row) {
+fn row_line(g: usize, row: WireRow) {
     let minislots = row.minislots;
     text(b"row");
     field(g as u64);
@@ -76,7 +65,7 @@ fn row_line(g: usize, row: Row) {
     text(b"\n");
 }
 
-fn wire_lines(wire: [Row; 8]) {
+fn wire_lines(wire: [WireRow; 8]) {
     let mut g: usize = 0;
     while g < 8 {
         let row = wire[g];
@@ -87,7 +76,7 @@ fn wire_lines(wire: [Row; 8]) {
     }
 }
 
-pub(crate) fn table_lines(c: Channel) {
+pub(crate) fn table_lines(c: LocalChannel) {
     let stations = c.stations;
     let wire = c.wire;
     let end = least(c.count, 65);

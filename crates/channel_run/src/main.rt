@@ -1,249 +1,203 @@
-// Every number of every call of a channel, and a few runs of one, written out for comparison with a program that was made apart from this one.
+// Every number of every call of a channel, and a few runs of one, written out for comparison with a program that was made apart from this
+// one.
 //
-// A table is a line `table` with its number of records, a line `record` for each, and a line `row` for each group of which the wire has something:
-// the group, then eight minislots as word and count in turn. A line `start`, `offer` or `slot` has a call's arguments, the line after it the answer,
-// and then the table as the call left it.
+// A table is a line `table` with its number of records, a line `record` for each, and a line `row` for each group of which the wire has
+// something: the group, then eight minislots as word and count in turn.
+//
+// The cases come from standard input, a line each, on the table that the line before left. A line `start`, `offer` or `slot` has a call's
+// arguments; it is written, then the answer, then the table as the call left it. The indexes of a start come from the line `indexes` or
+// `from` (one after the other from there on) before it, and the picks of a slot from the line `picks`. Other lines alter the table and
+// write nothing: `blank` (so many records that stand for no station), `count` (another number of records lent), `station` (its place, index
+// and condition, with the counters of the line `counters` before it), `minislot` (group, minislot, word and count). `table` writes the
+// table; `keep` keeps it, and `again` comes back to the one that was kept.
+mod calls;
 mod lines;
-mod samples;
 
-use held::Channel;
-use lines::call_line;
-use lines::start_line;
+use calls::Arguments;
+use calls::called;
+use libc::STDIN_FILENO;
 use lines::table_lines;
-use printing::field;
-use printing::field8;
-use printing::field16;
-use printing::text;
-use rules::Condition;
-use samples::asked;
-use samples::base;
-use samples::counts;
-use samples::indexes_from;
-use samples::not_open;
-use samples::of_group_2;
-use samples::of_three;
-use samples::resolving;
-use samples::station;
-use samples::stretch;
-use tables::blank;
-use tables::least;
-use tables::with_count;
-use tables::with_minislot;
-use tables::with_station;
+use local_channel::LocalChannel;
+use rules::Counters;
+use rules::Station;
+use runs_cases::Group;
+use runs_cases::begins;
+use runs_cases::group_at;
+use runs_cases::is_note;
+use runs_cases::line_end;
+use runs_cases::number;
+use runs_cases::number8;
+use runs_cases::number16;
+use runs_records::condition_of;
+use runs_records::counters_of;
+use runs_tables::blank;
+use runs_tables::with_count;
+use runs_tables::with_minislot;
+use runs_tables::with_station;
 
-// ---- the calls
-
-fn begun(c: Channel, m: u8, n: u8, indexes: &[u16]) -> Channel {
-    text(b"start");
-    field8(m);
-    field8(n);
-    field(indexes.len() as u64);
-    text(b"\n");
-    let r = held::start(c, m, n, indexes);
-    let answer = r.answer;
-    let after = r.channel;
-    start_line(answer);
-    table_lines(after);
-    after
+// The table that the next call is made on, and the one that was kept.
+struct Tables {
+    last: LocalChannel,
+    kept: LocalChannel,
 }
 
-fn offered(c: Channel, index: u16, bytes: usize) -> Channel {
-    text(b"offer");
-    field16(index);
-    field(bytes as u64);
-    text(b"\n");
-    let r = held::offer(c, index, bytes);
-    let answer = r.answer;
-    let after = r.channel;
-    call_line(answer);
-    table_lines(after);
-    after
+// ---- what calls are made on
+
+// 65 indexes from one on.
+fn indexes_from(first: u16) -> [u16; 65] {
+    let mut indexes = [0u16; 65];
+    let mut k: usize = 0;
+    let mut index = first % 1000;
+    while k < 65 {
+        indexes[k] = index;
+        index = index % 2000 + 1;
+        k += 1;
+    }
+    indexes
 }
 
-fn slotted(c: Channel, picks: &[u8]) -> Channel {
-    text(b"slot");
-    field(picks.len() as u64);
-    text(b"\n");
-    let r = held::slot(c, picks);
-    let answer = r.answer;
-    let after = r.channel;
-    call_line(answer);
-    table_lines(after);
-    after
+// The indexes of a group, at most 16 of them.
+fn indexes_of(g: Group) -> [u16; 65] {
+    let mut indexes = [0u16; 65];
+    let mut k: usize = 0;
+    while k < 16 {
+        indexes[k] = number16(g, k + 1);
+        k += 1;
+    }
+    indexes
 }
 
-fn slot2(c: Channel, p: u8, q: u8) -> Channel {
-    let picks = [p, q];
-    slotted(c, &picks)
+// The arguments after a line.
+fn given(a: Arguments, line: &[u8]) -> Arguments {
+    let head = group_at(line, 0);
+    let counters = a.counters;
+    let indexes = a.indexes;
+    let picks = a.picks;
+    if begins(line, b"counters") {
+        let counters = counters_of(head);
+        return Arguments {
+            counters,
+            indexes,
+            picks,
+        };
+    }
+    if begins(line, b"from") {
+        let indexes = indexes_from(number16(head, 1));
+        return Arguments {
+            counters,
+            indexes,
+            picks,
+        };
+    }
+    if begins(line, b"indexes") {
+        let indexes = indexes_of(head);
+        return Arguments {
+            counters,
+            indexes,
+            picks,
+        };
+    }
+    if begins(line, b"picks") {
+        return Arguments {
+            counters,
+            indexes,
+            picks: head,
+        };
+    }
+    a
 }
 
-fn slot6(c: Channel, p: u8, q: u8, r: u8) -> Channel {
-    let picks = [p, q, r, p, q, r];
-    slotted(c, &picks)
+// The table after a line that alters it, or as it was.
+fn altered(c: LocalChannel, counters: Counters, line: &[u8]) -> LocalChannel {
+    let head = group_at(line, 0);
+    let place = number(head, 1) as usize;
+    if begins(line, b"blank") {
+        return blank(place);
+    }
+    if begins(line, b"count") {
+        return with_count(c, place);
+    }
+    if begins(line, b"station") {
+        let condition = condition_of(line, head.next);
+        return with_station(
+            c,
+            place,
+            Station {
+                counters,
+                index: number16(head, 2),
+                condition,
+            },
+        );
+    }
+    if begins(line, b"minislot") {
+        return with_minislot(
+            c,
+            place,
+            number(head, 2) as usize,
+            number16(head, 3),
+            number8(head, 4),
+        );
+    }
+    c
 }
 
-// ---- starting: 5, 14, 8, 15
+// ---- the cases
 
-// 65 indexes from `first` on, of which a start gets the first n.
-fn begun_with(c: Channel, m: u8, n: u8, first: u16, count: usize) -> Channel {
-    let indexes = indexes_from(first);
-    let end = least(count, 65);
-    begun(c, m, n, &indexes[0..end])
+// The tables after a line.
+fn after(t: Tables, a: Arguments, line: &[u8]) -> Tables {
+    let last = t.last;
+    let kept = t.kept;
+    if begins(line, b"keep") {
+        return Tables { last, kept: last };
+    }
+    if begins(line, b"again") {
+        return Tables { last: kept, kept };
+    }
+    if begins(line, b"table") {
+        table_lines(last);
+        return t;
+    }
+    let counters = a.counters;
+    let changed = altered(last, counters, line);
+    Tables {
+        last: called(changed, a, line),
+        kept,
+    }
 }
 
-// On a table and a wire that are in use, so that a refusal has something to leave alone; each where the later numbers would come too.
-fn starts_refused() {
-    let c = base();
-    table_lines(c);
-    begun_with(c, 1, 1, 900, 65);
-    begun_with(c, 9, 1, 900, 65);
-    begun_with(c, 2, 0, 900, 65);
-    begun_with(c, 2, 9, 900, 65);
-    begun_with(c, 2, 1, 921, 5);
-    begun_with(c, 2, 1, 921, 7);
-    begun_with(with_count(c, 0), 2, 1, 0, 0);
-    begun_with(c, 2, 1, 919, 6);
-    let twice = [1u16, 2, 3, 4, 2, 5];
-    begun(c, 2, 1, &twice);
-    let twice_and_above = [1u16, 2, 3, 924, 2, 5];
-    begun(c, 2, 1, &twice_and_above);
+fn case(t: Tables, a: Arguments, line: &[u8]) -> Tables {
+    if is_note(line) {
+        return t;
+    }
+    after(t, a, line)
 }
 
-// 64 stations start, 65 give 14.
-fn starts() {
-    begun_with(base(), 3, 2, 918, 6);
-    begun_with(blank(64), 8, 8, 100, 64);
-    begun_with(blank(65), 8, 8, 100, 65);
-    begun_with(blank(65), 8, 8, 100, 64);
-    begun_with(blank(1), 2, 1, 923, 1);
-}
-
-// ---- offering: 14, 18, 16, 9, 10
-
-fn offers() {
-    let c = base();
-    offered(c, 500, 0);
-    offered(c, 50, 49);
-    offered(c, 100, 0);
-    offered(c, 600, 0);
-    offered(c, 600, 12241);
-    let taken = offered(c, 600, 12240);
-    offered(taken, 600, 1);
-    offered(with_count(c, 0), 50, 0);
-    offered(with_count(c, 65), 50, 0);
-}
-
-// ---- a slot: 14, 18, 17, 11
-
-fn slots_refused() {
-    let c = base();
-    let none = [0u8; 0];
-    slotted(c, &none);
-    let five = [0u8, 1, 1, 1, 1];
-    slotted(c, &five);
-    let seven = [1u8, 1, 1, 1, 1, 1, 1];
-    slotted(c, &seven);
-    slot6(c, 1, 2, 3);
-    slot6(c, 0, 1, 1);
-    slotted(with_count(c, 0), &none);
-    slotted(with_count(c, 65), &five);
-}
-
-// ---- 18, by one clause at a time
-
-// An offer that would be refused by 16, and a slot that would be refused by 17.
-fn unsound(c: Channel) {
-    table_lines(c);
-    offered(c, 50, 0);
-    let none = [0u8; 0];
-    slotted(c, &none);
-}
-
-fn unsound_records() {
-    let c = base();
-    let free = Condition::Free;
-    let urgent = Condition::Urgent { place: 1 };
-    unsound(with_station(c, 5, station(counts(1, 3, 1, 0), 200, free)));
-    unsound(with_station(c, 5, station(counts(1, 3, 1, 0), 924, free)));
-    unsound(with_station(c, 5, station(counts(2, 3, 1, 0), 600, free)));
-    unsound(with_station(c, 5, station(counts(1, 4, 1, 0), 600, free)));
-    unsound(with_station(c, 5, station(counts(1, 3, 2, 0), 600, free)));
-    unsound(with_station(c, 5, station(counts(1, 3, 1, 1), 600, free)));
-    unsound(with_station(c, 5, station(of_three(), 600, free)));
-    unsound(with_station(c, 5, station(of_group_2(), 600, free)));
-    unsound(with_station(c, 5, station(not_open(), 600, free)));
-    unsound(with_station(c, 0, station(counts(1, 3, 1, 0), 100, free)));
-    unsound(with_station(c, 5, station(counts(1, 3, 1, 0), 600, urgent)));
-}
-
-fn unsound_queues() {
-    let c = base();
-    let k = counts(1, 3, 1, 0);
-    unsound(with_station(c, 5, station(k, 600, stretch(3, 1, 2))));
-    unsound(with_station(c, 1, station(k, 200, stretch(1, 2, 3))));
-    unsound(with_station(c, 1, station(k, 200, stretch(2, 2, 3))));
-    unsound(with_station(c, 3, station(k, 400, Condition::Free)));
-    unsound(with_station(c, 3, station(k, 400, resolving(2, 1, 1))));
-    unsound(with_station(c, 4, station(k, 500, asked(1, 1, 5))));
-    unsound(with_station(c, 4, station(k, 500, asked(2, 2, 5))));
-    unsound(with_station(c, 4, station(k, 500, asked(2, 1, 4))));
-    unsound(with_station(c, 5, station(k, 600, asked(2, 1, 5))));
-}
-
-fn unsound_wires() {
-    let c = base();
-    unsound(with_minislot(c, 1, 0, 0, 0));
-    unsound(with_minislot(c, 1, 0, 63, 5));
-    unsound(with_minislot(c, 0, 1, 63, 1));
-    unsound(with_minislot(c, 0, 1, 0, 1));
-    unsound(with_minislot(c, 1, 2, 63, 1));
-    unsound(with_minislot(c, 2, 0, 63, 1));
-    unsound(with_minislot(c, 7, 7, 65535, 255));
-}
-
-// ---- runs
-
-// From a table that is sound, every kind of turn; the station that is free gets a message on the way.
-fn served() {
-    let c = slot6(base(), 1, 2, 1);
-    let c = slot6(c, 2, 1, 1);
-    let c = offered(c, 600, 48);
-    let c = slot6(c, 1, 1, 2);
-    let c = slot6(c, 2, 2, 1);
-    let c = slot6(c, 1, 2, 2);
-    let c = slot6(c, 1, 1, 1);
-    let c = slot6(c, 2, 1, 2);
-    let c = slot6(c, 1, 2, 1);
-    let c = slot6(c, 2, 1, 1);
-    let c = slot6(c, 1, 1, 2);
-    slot6(c, 1, 1, 2);
-}
-
-// Two stations: immediate success, a collision and its resolution, one of each length beside the other.
-fn from_the_start() {
-    let c = begun_with(blank(2), 2, 1, 7, 2);
-    let c = offered(c, 7, 1);
-    let c = slot2(c, 1, 1);
-    let c = slot2(c, 1, 1);
-    let c = offered(c, 7, 1);
-    let c = offered(c, 8, 97);
-    let c = slot2(c, 2, 2);
-    let c = slot2(c, 1, 2);
-    let c = slot2(c, 1, 1);
-    let c = slot2(c, 1, 1);
-    let c = slot2(c, 1, 1);
-    let c = slot2(c, 1, 1);
-    slot2(c, 1, 1);
+fn cases(bytes: &[u8], t: Tables, a: Arguments) {
+    let mut t = t;
+    let mut a = a;
+    let mut at: usize = 0;
+    while at < bytes.len() {
+        let end = line_end(bytes, at);
+        a = given(a, &bytes[at..end]);
+        t = case(t, a, &bytes[at..end]);
+        at = end + 1;
+    }
 }
 
 fn main() {
-    starts_refused();
-    starts();
-    offers();
-    slots_refused();
-    unsound_records();
-    unsound_queues();
-    unsound_wires();
-    served();
-    from_the_start();
+    let mut space = io::large_buffer();
+    let n = io::read_full(STDIN_FILENO, &mut space);
+    let none = group_at(b"", 0);
+    let counters = counters_of(none);
+    let indexes = [0u16; 65];
+    let c = blank(0);
+    cases(
+        &space[..n],
+        Tables { last: c, kept: c },
+        Arguments {
+            counters,
+            indexes,
+            picks: none,
+        },
+    );
 }

@@ -1,26 +1,20 @@
--- A row as an array of eight holds it: its feedback at a minislot, what a station settles to at its own minislot, and its own hearing tested at each
--- minislot of the array. From the laws of the rules, which speak of the list of the first m.
+-- A row as an array of eight holds it: its feedback at a minislot, and a station's own hearing tested at each minislot of the array. From the laws of the
+-- rules, which speak of the list of the first m.
 -- Assumes nothing.
-use mathlib.Core.Path.{_≡_, sym, ap, _∙_}
+use mathlib.Core.Path.{_≡_, sym, _∙_}
 use mathlib.Core.Bool.{Bool, true, false}
 use mathlib.Core.List.{List}
-use Prim.Native.Nat.{ℕ, _+_, _-_, _≤_, _<_}
+use Prim.Native.Nat.{ℕ, _+_, _≤_, _<_}
 use native.Mathlib.Omega.{arith}
 use lib.ListN.{length, getD, take, length-map, List·getD-map}
-use lib.Seq.{take-take, getD-take, length-take-le}
+use lib.Seq.{getD-take, length-take-le}
 use Rattle.minislot.specs.declared.Feedback.{Feedback}
 use Rattle.minislot.specs.declared.Feedback.the-variants.{Empty}
 use Rattle.minislot.specs.declared.MinislotFeedback.{MinislotFeedback}
 use Rattle.minislot.specs.Row.{feedbackIn}
-use Rattle.rules.specs.declared.Places.{Places}
 use Rattle.rules.specs.declared.Station.{Station}
-use Rattle.rules.specs.declared.Condition.{Condition}
-use Rattle.rules.specs.Queueing.{queued, queuedRow, passes}
-use Rattle.rules.specs.StationLimits.{stationWithin}
-use Rattle.rules.specs.Settling.{settledBy, settledHere}
 use Rattle.rules.specs.OwnHearing.{ownMinislot, ownTotal, hearsAt, hearsItself}
-use Rattle.rules.proofs.LimitLaws.{within-limits}
-use Rattle.rules.proofs.StationLaws.{station-within, own-within, settled-here, passes-before, hears-fails, hears-holds}
+use Rattle.rules.proofs.StationLaws.{hears-fails, hears-holds}
 
 abbrev pub blank : MinislotFeedback
 blank = record { feedback = Empty }
@@ -34,29 +28,6 @@ first-length m row h = length-take-le m (feedbackIn row) (rw length-map h)
 
 pub feedback-at : (m n : ℕ) (row : List MinislotFeedback) → n < m → getD (first m row) n Empty ≡ getD row n blank .feedback
 feedback-at m n row h = getD-take m (feedbackIn row) n Empty h ∙ List·getD-map (λ (x : MinislotFeedback). x .feedback) row n blank
-
--- the minislots before a station's own are fewer than m
-pub own-inside : (s : Station) (n : ℕ) → stationWithin s ≡ true → n ≡ ownMinislot (s .counters .next) (s .condition) - 1 → n < s .counters .minislots
-own-inside s n e q =
-    let t = station-within s e in
-    let w = within-limits (s .counters) (t .counters) in
-    let o = own-within (s .counters) (s .counters .next) (s .condition) (t .condition) in
-    omega arith
-
--- ---- step 1 at one minislot of the row
-
-module _ (m n : ℕ) (row : List MinislotFeedback) (full : m ≤ length row) (inside : n < m) (b : Bool) (p at : Places) (before : at ≡ queuedRow b p (take n (feedbackIn row))) where
-  same-before : at ≡ queuedRow b p (take n (first m row))
-  same-before = before ∙ ap (queuedRow b p) (sym (take-take n m (feedbackIn row) (omega arith)))
-
-  pub passes-at : passes (queuedRow b p (first m row)) ≡ false → passes (queued b at (getD row n blank .feedback)) ≡ false
-  passes-at e =
-      let h : n < length (first m row) = rw (first-length m row full) inside in
-      rw (same-before, ← (feedback-at m n row inside)) (passes-before b p (first m row) n h e)
-
-  pub settles-at : (g : ℕ) (k r : Condition) → n ≡ ownMinislot g k - 1 → r ≡ settledHere b g at (getD row n blank .feedback) k
-      → r ≡ settledBy b g p (first m row) k
-  settles-at g k r q e = e ∙ rw (same-before, ← (feedback-at m n row inside), q) (settled-here b g p (first m row) k)
 
 -- ---- a station's own hearing
 

@@ -7,33 +7,24 @@ ghost use mathlib.Core.Path.{_≡_};
 ghost use Prim.Native.Nat.{_≤_};
 ghost use lib.ListN.{length, take};
 ghost use Rattle.pattern.specs.Ones.{containsOnes};
-ghost use Rattle.pattern.specs.Patterns.{wordOf};
 ghost use Rattle.minislot.specs.Row.{feedbackIn};
 ghost use Rattle.rules.specs.OwnHearing.{ownMinislot, ownTotal, hearsHere, hearsElsewhere, hearsAt, hearsItself};
 
 // The minislot where a condition makes its station listen for itself in group g, 0 for none.
-pub fn own_minislot(g: u8, k: Condition) -> u8
+fn own_minislot(g: u8, k: Condition) -> u8
     ensures { λ r. ⌜ r ≡ ownMinislot g k ⌝ }
 {
     match k {
         Condition::Free => 0,
-        Condition::Fresh { total: _ } => 0,
+        Condition::Fresh { .. } => 0,
         Condition::Asked {
             group,
             minislot,
-            total: _,
-        } => { if group == g { minislot } else { 0 } }
-        Condition::Resolving {
-            group: _,
-            place: _,
-            total: _,
-        } => 0,
-        Condition::Urgent { place: _ } => 0,
-        Condition::Long {
-            first: _,
-            left: _,
-            total: _,
-        } => 0,
+            ..
+        } => if group == g { minislot } else { 0 },
+        Condition::Resolving { .. } => 0,
+        Condition::Urgent { .. } => 0,
+        Condition::Long { .. } => 0,
     }
 }
 
@@ -43,23 +34,11 @@ fn own_total(k: Condition) -> u8
 {
     match k {
         Condition::Free => 0,
-        Condition::Fresh { total: _ } => 0,
-        Condition::Asked {
-            group: _,
-            minislot: _,
-            total,
-        } => total,
-        Condition::Resolving {
-            group: _,
-            place: _,
-            total: _,
-        } => 0,
-        Condition::Urgent { place: _ } => 0,
-        Condition::Long {
-            first: _,
-            left: _,
-            total: _,
-        } => 0,
+        Condition::Fresh { .. } => 0,
+        Condition::Asked { total, .. } => total,
+        Condition::Resolving { .. } => 0,
+        Condition::Urgent { .. } => 0,
+        Condition::Long { .. } => 0,
     }
 }
 
@@ -70,14 +49,13 @@ fn contains(word: u16, own: u16) -> bool
 }
 
 // In its own minislot: a Single of its own index and total, or a Collide that contains all ones of its word.
-fn hears_here(index: u16, mine: u16, total: u8, word: u16, f: Feedback) -> bool
-    requires { ⌜ mine ≡ wordOf index ⌝ }
+fn hears_here(index: u16, total: u8, word: u16, f: Feedback) -> bool
     ensures { λ r. ⌜ r ≡ hearsHere index total word f ⌝ }
 {
     match f {
         Feedback::Empty => false,
-        Feedback::Single(i, c) => { if i == index { c == total } else { false } }
-        Feedback::Collide => contains(word, mine),
+        Feedback::Single(i, c) => if i == index { c == total } else { false },
+        Feedback::Collide => contains(word, pattern::word_of(index)),
     }
 }
 
@@ -93,12 +71,11 @@ fn hears_elsewhere(index: u16, f: Feedback) -> bool
 }
 
 // Minislot j of a row, whose own is minislot `own`.
-fn hears_at(index: u16, mine: u16, own: u8, total: u8, j: u8, word: u16, f: Feedback) -> bool
-    requires { ⌜ mine ≡ wordOf index ⌝ }
+fn hears_at(index: u16, own: u8, total: u8, j: u8, word: u16, f: Feedback) -> bool
     ensures { λ r. ⌜ r ≡ hearsAt index own total j word f ⌝ }
 {
     if j == own {
-        hears_here(index, mine, total, word, f)
+        hears_here(index, total, word, f)
     } else {
         hears_elsewhere(index, f)
     }
@@ -113,13 +90,12 @@ pub fn hears_itself(s: Station, words: &[u16], row: [MinislotFeedback; 8]) -> bo
     let k = s.condition;
     let own = own_minislot(s.counters.next, k);
     let total = own_total(k);
-    let mine = pattern::word_of(s.index);
     let mut j: u8 = 0;
     while j < m {
         let i = j as usize;
         let slot = row[i];
         let f = slot.feedback;
-        if hears_at(s.index, mine, own, total, j + 1, words[i], f) {
+        if hears_at(s.index, own, total, j + 1, words[i], f) {
             j += 1;
         } else {
             return false;

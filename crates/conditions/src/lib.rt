@@ -1,5 +1,5 @@
-// A station's condition and record as code, for the station and the channel: its limits, its steps of a slot, and what it must hear of itself.
-// Each function is equal to its rule of crate `rules`. These are leaves: what they require is checked by the calls above them.
+// What is checked of a station's condition and record, for the station and the channel: its limits, what it must hear of itself, and
+// whether it can take a message. Each function is equal to its rule of crate `rules`.
 pub mod hearing;
 pub mod limits;
-pub mod steps;
+pub mod offering;

@@ -4,26 +4,33 @@ use rules::Counters;
 use rules::Station;
 ghost use mathlib.Core.Path.{_≡_};
 ghost use mathlib.Core.Bool.{_&&_};
-ghost use Prim.Native.Nat.{_+_, _≤_};
+ghost use Prim.Native.Nat.{_+_};
 ghost use lib.Dec.{leb};
 ghost use Rattle.rules.specs.Limits.{between};
-ghost use Rattle.rules.specs.Starting.{inRanges};
+ghost use Rattle.rules.specs.StationCalls.{noStation, isIndex};
 ghost use Rattle.rules.specs.StationLimits.{stationWithin, conditionWithin, resolutionAt, isTotal};
 
-// Whether m and n are in their ranges.
-pub fn in_ranges(m: u8, n: u8) -> bool
-    ensures { λ r. ⌜ r ≡ inRanges m n ⌝ }
+// The greatest index of a station, and the most groups (paper 01, "The box" and "Counters").
+const INDEX_LIMIT: u16 = 923;
+
+const MOST_GROUPS: u8 = 8;
+
+// Whether a number is a station's index.
+pub fn is_index(i: u16) -> bool
+    ensures { λ r. ⌜ r ≡ isIndex i ⌝ }
 {
-    if m < 2 {
-        return false;
+    i <= INDEX_LIMIT
+}
+
+// What stands for a station where a start is refused: all zero, outside the limits.
+pub fn no_station() -> Station
+    ensures { λ r. ⌜ r ≡ noStation ⌝ }
+{
+    Station {
+        counters: counters::none(),
+        index: 0,
+        condition: Condition::Free,
     }
-    if 8 < m {
-        return false;
-    }
-    if n < 1 {
-        return false;
-    }
-    n <= 8
 }
 
 // Whether a station's record is within its limits.
@@ -33,17 +40,16 @@ pub fn within(s: Station) -> bool
     let c = s.counters;
     let k = s.condition;
     if counters::within(c) {
-        if 923 < s.index {
-            return false;
+        if is_index(s.index) {
+            return condition_within(c, k);
         }
-        return condition_within(c, k);
+        return false;
     }
     false
 }
 
 // Whether a condition is within its limits, by the counters that its station keeps.
 pub fn condition_within(c: Counters, k: Condition) -> bool
-    requires { ⌜ c .groups ≤ 8 ⌝ }
     ensures { λ r. ⌜ r ≡ conditionWithin c k ⌝ }
 {
     match k {
@@ -83,13 +89,15 @@ fn asked_within(groups: u8, minislots: u8, group: u8, minislot: u8, total: u8) -
 }
 
 fn resolving_within(c: Counters, group: u8, place: u16, total: u8) -> bool
-    requires { ⌜ c .groups ≤ 8 ⌝ }
     ensures { λ r. ⌜ r ≡ between 1 group (c .groups) && between 1 place (resolutionAt c group) && isTotal total ⌝ }
 {
     if group < 1 {
         return false;
     }
     if c.groups < group {
+        return false;
+    }
+    if MOST_GROUPS < group {
         return false;
     }
     let g = (group - 1) as usize;

@@ -1,22 +1,49 @@
-// The counters' rules as code, for the listener, the station and the channel: each function is equal to its rule of crate `rules`. These are
-// leaves: what they require is checked by the calls above them.
+// The counters' rules as code, for the listener, the station and the channel: each function is equal to its rule of crate `rules`. These
+// are leaves: what they require is checked by the calls above them.
 use minislot::Feedback;
 use minislot::MinislotFeedback;
+use minislot::RowReading;
 use rules::Counters;
 use rules::Places;
+use rules::StepOne;
 use rules::Turn;
 ghost use mathlib.Core.Path.{_≡_};
-ghost use mathlib.Core.Bool.{false};
+ghost use mathlib.Core.Bool.{true, false};
 ghost use Prim.Native.Nat.{_+_, _-_, _≤_};
 ghost use lib.Dec.{eqb};
 ghost use lib.ListN.{take};
 ghost use Rattle.listlaws.specs.Every.{everyFrom};
-ghost use Rattle.minislot.specs.Row.{feedbackIn};
-ghost use Rattle.rules.specs.Limits.{withinLimits, groupsWithin, resolutionWithin, openedWithin};
-ghost use Rattle.rules.specs.Starting.{startCounters, noCounters};
-ghost use Rattle.rules.specs.Queueing.{queued, queuedSingle, queuedRow, passes, placesOf, openedOf, immediate};
+ghost use Rattle.minislot.specs.Row.{weight, feedbackIn};
+ghost use Rattle.rules.specs.Hearing.{feedbackOf};
+ghost use Rattle.rules.specs.Limits.{withinLimits, countsWithin, groupsWithin, resolutionWithin, openedWithin};
+ghost use Rattle.rules.specs.Starting.{inRanges, startCounters, noCounters};
+ghost use Rattle.rules.specs.Queueing.{queued, queuedSingle, queuedRow, passes, placesOf, openedOf, immediate, stepOneOf};
 ghost use Rattle.rules.specs.Turns.{turnOf, isOpen};
 ghost use Rattle.rules.specs.Falling.{fallen, following, urgentFalls, longFalls};
+ghost use Rattle.counters.specs.Bounds.{NextGroup, Within, Grown};
+
+// The limits of H, N and each RQ (paper 01, "Counters").
+const URGENT_LIMIT: u32 = 4095;
+
+const LONG_LIMIT: u32 = 65535;
+
+const RESOLUTION_LIMIT: u32 = 4095;
+
+// Whether m and n are in their ranges.
+pub fn in_ranges(m: u8, n: u8) -> bool
+    ensures { λ r. ⌜ r ≡ inRanges m n ⌝ }
+{
+    if m < 2 {
+        return false;
+    }
+    if 8 < m {
+        return false;
+    }
+    if n < 1 {
+        return false;
+    }
+    n <= 8
+}
 
 // The counters at the start, m and n being in their ranges.
 pub fn start(m: u8, n: u8) -> Counters
@@ -52,28 +79,25 @@ pub fn none() -> Counters
 pub fn within(c: Counters) -> bool
     ensures { λ r. ⌜ r ≡ withinLimits c ⌝ }
 {
-    let m = c.minislots;
+    if in_ranges(c.minislots, c.groups) {
+        return counts_within(c);
+    }
+    false
+}
+
+// The next group, the counters and the two arrays, of as many groups as the record says.
+fn counts_within(c: Counters) -> bool
+    ensures { λ r. ⌜ r ≡ countsWithin c ⌝ }
+{
     let n = c.groups;
     let g = c.next;
-    if m < 2 {
-        return false;
-    }
-    if 8 < m {
-        return false;
-    }
-    if n < 1 {
-        return false;
-    }
-    if 8 < n {
-        return false;
-    }
     if g < 1 {
         return false;
     }
     if n < g {
         return false;
     }
-    if 4095 < c.urgent {
+    if URGENT_LIMIT < (c.urgent as u32) {
         return false;
     }
     groups_within(c)
@@ -100,7 +124,7 @@ fn resolution_within(n: u8, resolution: [u16; 8]) -> bool
     while i < 8 {
         let r = resolution[i];
         if i < groups {
-            if 4095 < r {
+            if RESOLUTION_LIMIT < (r as u32) {
                 return false;
             }
         } else if r != 0 {
@@ -128,9 +152,10 @@ fn opened_within(n: u8, opened: [bool; 8]) -> bool
 }
 
 // The lengths that a slot of the next group works on.
-pub fn places_of(c: Counters) -> Places
-    requires { ⌜ (1 ≤ c .next) × (c .next ≤ 8) ⌝ }
-    ensures { λ r. ⌜ (r ≡ placesOf c) × (r .urgent ≤ 65535) × (r .long ≤ 65535) × (r .resolution ≤ 65535) ⌝ }
+fn places_of(c: Counters) -> Places
+    requires { ⌜ NextGroup c ⌝ }
+    ensures { λ r. ⌜ r ≡ placesOf c ⌝ }
+    ensures fits { λ r. ⌜ Within 65535 r ⌝ }
 {
     let g = (c.next - 1) as usize;
     let r = c.resolution[g];
@@ -142,8 +167,8 @@ pub fn places_of(c: Counters) -> Places
 }
 
 // The next group's Open mark.
-pub fn opened_of(c: Counters) -> bool
-    requires { ⌜ (1 ≤ c .next) × (c .next ≤ 8) ⌝ }
+fn opened_of(c: Counters) -> bool
+    requires { ⌜ NextGroup c ⌝ }
     ensures { λ r. ⌜ r ≡ openedOf c ⌝ }
 {
     let g = (c.next - 1) as usize;
@@ -151,15 +176,16 @@ pub fn opened_of(c: Counters) -> bool
 }
 
 // Whether a Single of count 1 is immediate success, from the mark and the row's weight.
-pub fn immediate_success(opened: bool, weight: u8) -> bool
+fn immediate_success(opened: bool, weight: u8) -> bool
     ensures { λ r. ⌜ r ≡ immediate opened weight ⌝ }
 {
     if opened { weight == 1 } else { false }
 }
 
 fn queue_single(success: bool, p: Places, count: u8) -> Places
-    requires { ⌜ (p .urgent ≤ 70000) × (p .long ≤ 70000) ⌝ }
-    ensures { λ r. ⌜ (r ≡ queuedSingle success (eqb count 1) count p) × (r .urgent ≤ p .urgent + 1) × (r .long ≤ p .long + 255) × (r .resolution ≤ p .resolution) ⌝ }
+    requires { ⌜ Within 70000 p ⌝ }
+    ensures { λ r. ⌜ r ≡ queuedSingle success (eqb count 1) count p ⌝ }
+    ensures grown { λ r. ⌜ Grown p r ⌝ }
 {
     if count == 1 {
         if success {
@@ -180,8 +206,9 @@ fn queue_single(success: bool, p: Places, count: u8) -> Places
 
 // One minislot of step 1.
 pub fn queue(success: bool, p: Places, f: Feedback) -> Places
-    requires { ⌜ (p .urgent ≤ 70000) × (p .long ≤ 70000) × (p .resolution ≤ 70000) ⌝ }
-    ensures { λ r. ⌜ (r ≡ queued success p f) × (r .urgent ≤ p .urgent + 1) × (r .long ≤ p .long + 255) × (r .resolution ≤ p .resolution + 1) ⌝ }
+    requires { ⌜ Within 70000 p ⌝ }
+    ensures { λ r. ⌜ r ≡ queued success p f ⌝ }
+    ensures grown { λ r. ⌜ Grown p r ⌝ }
 {
     match f {
         Feedback::Empty => p,
@@ -195,8 +222,8 @@ pub fn queue(success: bool, p: Places, f: Feedback) -> Places
 }
 
 // Step 1: the first m minislots of a row, in order.
-pub fn queue_row(success: bool, before: Places, row: [MinislotFeedback; 8], m: u8) -> Places
-    requires { ⌜ (m ≤ 8) × (before .urgent ≤ 65535) × (before .long ≤ 65535) × (before .resolution ≤ 65535) ⌝ }
+fn queue_row(success: bool, before: Places, row: [MinislotFeedback; 8], m: u8) -> Places
+    requires { ⌜ (m ≤ 8) × Within 65535 before ⌝ }
     ensures { λ r. ⌜ r ≡ queuedRow success before (take m (feedbackIn row)) ⌝ }
 {
     let n = m as usize;
@@ -212,16 +239,34 @@ pub fn queue_row(success: bool, before: Places, row: [MinislotFeedback; 8], m: u
 }
 
 // Whether a length passes its limit.
-pub fn passes_limit(p: Places) -> bool
+fn passes_limit(p: Places) -> bool
     ensures { λ r. ⌜ r ≡ passes p ⌝ }
 {
-    if 4095 < p.urgent {
+    if URGENT_LIMIT < p.urgent {
         return true;
     }
-    if 65535 < p.long {
+    if LONG_LIMIT < p.long {
         return true;
     }
-    4095 < p.resolution
+    RESOLUTION_LIMIT < p.resolution
+}
+
+// Step 1 for whoever keeps these counters, by a row that was read: whether success is immediate, the lengths before and after, and whether
+// they fit.
+pub fn step_one(c: Counters, row: RowReading) -> StepOne
+    requires { ⌜ (withinLimits c ≡ true) × (row .weight ≡ weight (feedbackOf (c .minislots) row)) ⌝ }
+    ensures { λ r. ⌜ r ≡ stepOneOf c (feedbackOf (c .minislots) row) ⌝ }
+{
+    let minislots = row.minislots;
+    let before = places_of(c);
+    let success = immediate_success(opened_of(c), row.weight);
+    let after = queue_row(success, before, minislots, c.minislots);
+    StepOne {
+        success,
+        before,
+        after,
+        fits: !passes_limit(after),
+    }
 }
 
 // Step 2.
@@ -290,7 +335,7 @@ fn next_group(n: u8, g: u8) -> u8
 
 // Steps 4 and 5 of the counters, by the lengths after step 1.
 pub fn fall(c: Counters, p: Places) -> Counters
-    requires { ⌜ (1 ≤ c .next) × (c .next ≤ 8) × (passes p ≡ false) ⌝ }
+    requires { ⌜ NextGroup c × (passes p ≡ false) ⌝ }
     ensures { λ r. ⌜ r ≡ fallen c p ⌝ }
 {
     let t = turn(p);

@@ -1,17 +1,17 @@
 // Follows a recording: reads `m,n` and then rows of minislots, and prints the listener's counters after each slot.
 // It reads standard input, or the file that its first argument names, or, where that is the word `example`, a recording of its own.
-use batch::count_first;
-use batch::follow_held;
-use batch::keep_rest;
 use follower::Follower;
 use follower::Progress;
 use follower::begin;
 use libc::STDIN_FILENO;
 use libc::STDOUT_FILENO;
 use lines::put_header;
+use stream::count_first;
+use stream::follow_buffered;
+use stream::keep_rest;
 
 // Where the run stands.
-struct Stream {
+struct Run {
     follower: Follower,
     // the bytes of the input buffer from here up to `filled` are still to be followed
     from: usize,
@@ -35,7 +35,7 @@ fn flush(out: &[u8], at: usize) -> bool {
 }
 
 // Reads on: the bytes that are left go to the front of the buffer, and new ones after them.
-fn refill(fd: i32, name: &[u8], s: Stream, input: &mut [u8]) -> Stream {
+fn refill(fd: i32, name: &[u8], s: Run, input: &mut [u8]) -> Run {
     let kept = keep_rest(input, s.from, s.filled);
     let got = libc::read(fd, &mut input[kept..]);
     let is_read = got >= 0;
@@ -44,7 +44,7 @@ fn refill(fd: i32, name: &[u8], s: Stream, input: &mut [u8]) -> Stream {
     }
     let more = io::count(got, input);
     let follower = s.follower;
-    Stream {
+    Run {
         follower,
         from: 0,
         filled: kept + more,
@@ -55,14 +55,14 @@ fn refill(fd: i32, name: &[u8], s: Stream, input: &mut [u8]) -> Stream {
 }
 
 // Follows what the input buffer holds, and then reads on, or writes what the output buffer holds.
-fn turn(fd: i32, name: &[u8], s: Stream, input: &mut [u8], out: &mut [u8]) -> Stream {
+fn round(fd: i32, name: &[u8], s: Run, input: &mut [u8], out: &mut [u8]) -> Run {
     let filled = count_first(s.filled, input);
     let before = s.follower;
-    let n = follow_held(before, &input[..filled], s.from, s.ended, out, s.at);
+    let n = follow_buffered(before, &input[..filled], s.from, s.ended, out, s.at);
     let follower = n.follower;
     let progress = n.progress;
     if let Progress::More = progress {
-        let held = Stream {
+        let rest = Run {
             follower,
             from: n.next,
             filled,
@@ -70,14 +70,14 @@ fn turn(fd: i32, name: &[u8], s: Stream, input: &mut [u8], out: &mut [u8]) -> St
             at: n.at,
             live: true,
         };
-        return refill(fd, name, held, input);
+        return refill(fd, name, rest, input);
     }
     let is_written = flush(out, n.at);
     let mut live = false;
     if let Progress::Went = progress {
         live = is_written;
     }
-    Stream {
+    Run {
         follower,
         from: n.next,
         filled,
@@ -87,15 +87,15 @@ fn turn(fd: i32, name: &[u8], s: Stream, input: &mut [u8], out: &mut [u8]) -> St
     }
 }
 
-// Follows all that the descriptor gives. A proved loop has to end, and nothing says that the input does: so the loop counts its turns down, from a
-// number that no run uses up.
+// Follows all that the descriptor gives. A proved loop has to end, and nothing says that the input does: so the loop counts its rounds
+// down, from a number that no run uses up.
 fn follow_input(fd: i32, name: &[u8]) {
     let mut input_space = io::large_buffer();
     let mut out_space = io::large_buffer();
     let input: &mut [u8] = &mut input_space;
     let out: &mut [u8] = &mut out_space;
     let at = put_header(out, 0);
-    let mut s = Stream {
+    let mut s = Run {
         follower: begin(),
         from: 0,
         filled: 0,
@@ -103,11 +103,11 @@ fn follow_input(fd: i32, name: &[u8]) {
         at,
         live: true,
     };
-    let mut turns = u64::MAX;
-    while 0 < turns {
-        s = turn(fd, name, s, input, out);
+    let mut rounds = u64::MAX;
+    while 0 < rounds {
+        s = round(fd, name, s, input, out);
         if s.live {
-            turns -= 1;
+            rounds -= 1;
         } else {
             return;
         }
@@ -120,7 +120,7 @@ fn follow_example() {
     let out: &mut [u8] = &mut space;
     let at = put_header(out, 0);
     let recording = b"2,1\r\n0,0,0,0\r\n63,1,95,3\r\n127,3,0,0\r\n111,1,119,2\r\n0,0,0,0\r\n";
-    let n = follow_held(begin(), recording, 0, true, out, at);
+    let n = follow_buffered(begin(), recording, 0, true, out, at);
     flush(out, n.at);
 }
 

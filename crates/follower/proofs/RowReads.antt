@@ -9,7 +9,7 @@ use borrow.Author.Tests.{eq-eqb, ne-eqb}
 use lib.ListN.{length, take, length-take}
 use Rattle.recording.specs.Fields.{wellFormed, fieldsOf}
 use Rattle.recording.specs.Row.{wordsOf, countsOf, withinRange, brokenRow, rowFrom, rowOf}
-use Rattle.recording.specs.declared.fields.Row.{Row}
+use Rattle.recording.specs.declared.fields.RowFields.{RowFields}
 use Rattle.recording.proofs.RowLaws.{row-good, row-halves, Halves}
 use Rattle.rules.specs.declared.Counters.{Counters}
 use Rattle.rules.specs.declared.Listened.{Listened}
@@ -32,10 +32,10 @@ many-minislots c h = go (withinLimits c) refl
     go true e = absurd (omega (arith, within-limits c e))
     go false e = refl
 
-module _ (f : Follower) (bytes : List ℕ) (row : Row) (read : row ≡ rowOf bytes) where
+module _ (f : Follower) (bytes : List ℕ) (row : RowFields) (read : row ≡ rowOf bytes) where
   pub row-refused : (row .number ≡ 0 → ⊥) → refusedStep f 19 ≡ rowStep f bytes
   unfolding rowOf rowFrom rowStep
-  row-refused h = go (wellFormed bytes && withinRange (fieldsOf bytes)) (λ e. h (ap (λ (r : Row). r .number) read ∙ e))
+  row-refused h = go (wellFormed bytes && withinRange (fieldsOf bytes)) (λ e. h (ap (λ (r : RowFields). r .number) read ∙ e))
     where
       go : (t : Bool) → (cond t (rowFrom (fieldsOf bytes)) brokenRow .number ≡ 0 → ⊥)
           → refusedStep f 19 ≡ cond t (fieldsStep f (fieldsOf bytes)) (refusedStep f 19)
@@ -44,11 +44,11 @@ module _ (f : Follower) (bytes : List ℕ) (row : Row) (read : row ≡ rowOf byt
 
   module _ (whole : row .number ≡ 0) where
     zero-number : rowOf bytes .number ≡ 0
-    zero-number = ap (λ (r : Row). r .number) (sym read) ∙ whole
+    zero-number = ap (λ (r : RowFields). r .number) (sym read) ∙ whole
 
     field-count : row .fields ≡ length (fieldsOf bytes)
     unfolding rowFrom
-    field-count = ap (λ (r : Row). r .fields) (read ∙ row-good bytes zero-number)
+    field-count = ap (λ (r : RowFields). r .fields) (read ∙ row-good bytes zero-number)
 
     by-fields : fieldsStep f (fieldsOf bytes) ≡ rowStep f bytes
     unfolding rowOf rowFrom brokenRow rowStep
@@ -74,12 +74,12 @@ module _ (f : Follower) (bytes : List ℕ) (row : Row) (read : row ≡ rowOf byt
 
       pub outside : 8 < f .counters .minislots → refusedStep f 18 ≡ rowStep f bytes
       outside h =
-          (rw (listening-18 (f .counters) (wordsOf (fieldsOf bytes)) (countsOf (fieldsOf bytes)) (many-minislots (f .counters) h)))
+          ap (listenedStep f) (listening-18 (f .counters) (wordsOf (fieldsOf bytes)) (countsOf (fieldsOf bytes)) (many-minislots (f .counters) h))
           ∙ by-listening
 
       module _ (few : f .counters .minislots ≤ 8) where
         halves : Halves bytes (f .counters .minislots)
-        halves = row-halves bytes (f .counters .minislots) zero-number (ap (λ (r : Row). r .fields) (sym read) ∙ count) few
+        halves = row-halves bytes (f .counters .minislots) zero-number (ap (λ (r : RowFields). r .fields) (sym read) ∙ count) few
 
         pub word-count : length (take (f .counters .minislots) (row .words)) ≡ f .counters .minislots
         word-count = rw (read, halves .words) (halves .all-words)

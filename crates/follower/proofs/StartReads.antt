@@ -6,7 +6,7 @@ use Prim.Native.Nat.{ℕ, _<_}
 use native.Mathlib.Omega.{arith}
 use lib.Dec.{leb}
 use borrow.Author.Tests.{le-leb, lt-leb}
-use Rattle.rules.specs.Starting.{startOf}
+use Rattle.rules.specs.Starting.{startNumberOf, startOf}
 use Rattle.rules.specs.Limits.{between}
 use Rattle.follower.specs.declared.Follower.{Follower}
 use Rattle.follower.specs.Following.{refusedStep, startedStep}
@@ -17,9 +17,9 @@ and-false false = refl
 
 module _ (f : Follower) (m n : ℕ) where
   pub many-minislots : 8 < m → refusedStep f 5 ≡ startedStep f (startOf m n)
-  unfolding startOf
+  unfolding startOf startNumberOf
   many-minislots h = rw (lt-leb m 8 h, and-false (leb 2 m))
 
   pub many-groups : 8 < n → refusedStep f 5 ≡ startedStep f (startOf m n)
-  unfolding startOf
+  unfolding startOf startNumberOf
   many-groups h = rw (lt-leb n 8 h, and-false (leb 1 n), and-false (between 2 m 8))

@@ -1,4 +1,5 @@
--- Following a whole recording, record after record (paper 01, "`follow`"): the record that begins at a place of the input, and all that is printed.
+-- Following a whole recording, record after record (paper 01, "`follow`"): the record that begins at a place of the input, and all that is
+-- printed.
 use mathlib.Core.Bool.{Bool, true, false, cond}
 use mathlib.Core.List.{List, [], _∷_, _++_}
 use Prim.Native.Nat.{ℕ, zero, suc, _-_}
@@ -49,7 +50,9 @@ advanceOf f bytes start ended = advanceBy f bytes start (cutOf bytes start ended
 
 -- the answer where an advance's line is put into a buffer from place `at` on
 abbrev pub reached : Advance → List ℕ → ℕ → Next
-reached a buffer at = record { progress = a .progress; follower = a .follower; next = a .next; at = placeAfter buffer at (bytesOf (a .line)) }
+reached a buffer at =
+    let after = placeAfter buffer at (bytesOf (a .line)) in
+    record { progress = a .progress; follower = a .follower; next = a .next; at = after }
 
 -- the record went through, so the next is to be followed
 abbrev pub goesOn : Progress → Bool

@@ -18,7 +18,8 @@ ghost use Prim.Native.Nat.{_-_, _<_};
 ghost use lib.ListN.{getD};
 ghost use Rattle.lines.specs.Lines.{putAt, placeAfter};
 ghost use Rattle.rules.specs.Starting.{startOf};
-ghost use Rattle.follower.specs.Following.{letterOf, placeFollowing, atBegin, bytesOf, refusedStep, startedStep, listenedStep, rowStep, followRecord, endsOutput, followed};
+ghost use Rattle.follower.specs.Following.{letterOf, placeFollowing, atBegin, bytesOf, refusedStep, startedStep};
+ghost use Rattle.follower.specs.Following.{listenedStep, rowStep, followRecord, endsOutput, followed};
 ghost use Rattle.follower.specs.Advancing.{progressOf, stepAdvance, doneAdvance, advanceOf, reached};
 
 // What is known between two records: the listener's record, and the number of the record to come (from 1; the first is `m,n`).
@@ -237,7 +238,8 @@ fn read_record(f: Follower, bytes: &[u8]) -> Step
 
 // A line, at place at if it fits there; gives the place after it, or at.
 fn put(line: Line, out: &mut [u8], at: usize) -> usize
-    ensures { λ r. ⌜ (now (out .exit) ≡ putAt (now (out .entry)) at (bytesOf line)) × (r ≡ placeAfter (now (out .entry)) at (bytesOf line)) ⌝ }
+    ensures buffer { λ r. ⌜ now (out .exit) ≡ putAt (now (out .entry)) at (bytesOf line) ⌝ }
+    ensures reached { λ r. ⌜ r ≡ placeAfter (now (out .entry)) at (bytesOf line) ⌝ }
 {
     match line {
         Line::Nothing => at,
@@ -259,18 +261,8 @@ fn progress_of(line: Line) -> Progress
 {
     match line {
         Line::Nothing => Progress::Went,
-        Line::Row {
-            slot: _,
-            group: _,
-            letter: _,
-            urgent: _,
-            long: _,
-            resolution: _,
-        } => Progress::Went,
-        Line::Refusal {
-            number: _,
-            place: _,
-        } => Progress::Refused,
+        Line::Row { .. } => Progress::Went,
+        Line::Refusal { .. } => Progress::Refused,
     }
 }
 
@@ -280,25 +272,16 @@ fn ends_output(line: Line) -> bool
 {
     match line {
         Line::Nothing => false,
-        Line::Row {
-            slot: _,
-            group: _,
-            letter: _,
-            urgent: _,
-            long: _,
-            resolution: _,
-        } => false,
-        Line::Refusal {
-            number: _,
-            place: _,
-        } => true,
+        Line::Row { .. } => false,
+        Line::Refusal { .. } => true,
     }
 }
 
-// Follows one record, which is handed over without its CR LF, and writes its line at place at if it fits there. In the first record: 19, then 5.
-// In a row: 19, then 6, then listening's numbers. A refusal writes its line and ends the output.
+// Follows one record, which is handed over without its CR LF, and writes its line at place at if it fits there.
+// In the first record: 19, then 5. In a row: 19, then 6, then listening's numbers. A refusal writes its line and ends the output.
 pub fn follow_record(f: Follower, bytes: &[u8], out: &mut [u8], at: usize) -> Followed
-    ensures { λ r. ⌜ (now (out .exit) ≡ putAt (now (out .entry)) at (bytesOf (followRecord f (now (bytes .entry)) .line))) × (r ≡ followed (followRecord f (now (bytes .entry))) (now (out .entry)) at) ⌝ }
+    ensures buffer { λ r. ⌜ now (out .exit) ≡ putAt (now (out .entry)) at (bytesOf (followRecord f (now (bytes .entry)) .line)) ⌝ }
+    ensures answer { λ r. ⌜ r ≡ followed (followRecord f (now (bytes .entry))) (now (out .entry)) at ⌝ }
 {
     let s = read_record(f, bytes);
     let line = s.line;
@@ -359,8 +342,8 @@ fn advance_at(f: Follower, bytes: &[u8], start: usize, ended: bool) -> Advance
     }
 }
 
-// Follows the record that begins at place start of the bytes, and writes its line at place at of the buffer if it fits there; ended: no byte comes
-// after these. 19: the record breaks the form, or the first one is missing. The other numbers are those of `follow_record`.
+// Follows the record that begins at place start of the bytes, and writes its line at place at of the buffer if it fits there; ended: no
+// byte comes after these. 19: the record breaks the form, or the first one is missing. The other numbers are those of `follow_record`.
 pub fn follow_next(
     f: Follower,
     bytes: &[u8],
@@ -369,7 +352,8 @@ pub fn follow_next(
     out: &mut [u8],
     at: usize,
 ) -> Next
-    ensures { λ r. ⌜ (now (out .exit) ≡ putAt (now (out .entry)) at (bytesOf (advanceOf f (now (bytes .entry)) start ended .line))) × (r ≡ reached (advanceOf f (now (bytes .entry)) start ended) (now (out .entry)) at) ⌝ }
+    ensures buffer { λ r. ⌜ now (out .exit) ≡ putAt (now (out .entry)) at (bytesOf (advanceOf f (now (bytes .entry)) start ended .line)) ⌝ }
+    ensures answer { λ r. ⌜ r ≡ reached (advanceOf f (now (bytes .entry)) start ended) (now (out .entry)) at ⌝ }
 {
     let a = advance_at(f, bytes, start, ended);
     let line = a.line;

@@ -3,13 +3,14 @@
 -- Assumes nothing.
 use mathlib.Core.Bool.{Bool, true, false, _&&_, and-true, and-assoc}
 use mathlib.Core.Path.{_≡_, refl, sym, _∙_}
-use mathlib.Core.List.{List, [], _∷_, _++_, foldl}
+use mathlib.Core.List.{List, [], _∷_, _++_}
 use Prim.Native.Nat.{ℕ, zero, suc, _+_, _*_, _-_, _/_, _%_, _^_, _<_, _≤_}
 use native.Mathlib.Nat.{div-add-mod, mod-lt, pow-suc}
 use native.Mathlib.Omega.{arith}
 use borrow.Author.Tests.{lt-ltb, le-ltb, le-leb, ltb-true, ltb-false}
 use lib.Dec.{ltb}
 use lib.ListN.{length, getD, length-append, List·getD-append}
+use Rattle.listlaws.proofs.Fold.{foldl-snoc}
 use Rattle.recording.specs.Fields.{every, isDigit, isField, tenfold, numeral}
 use Rattle.lines.specs.Decimal.{digitsWithin, digitsOf}
 
@@ -52,17 +53,12 @@ module _ (P : ℕ → Type 0) (low : (n : ℕ) → n < 10 → P n) (high : (n : 
   tenths : (n : ℕ) → P n
   tenths n = by-tenths P low high n n (omega arith)
 
--- the last digit, in front of which the others stand
-numeral-snoc : (l : List ℕ) (v b : ℕ) → foldl tenfold v (l ++ (b ∷ [])) ≡ tenfold (foldl tenfold v l) b
-numeral-snoc [] v b = refl
-numeral-snoc (x ∷ l) v b = numeral-snoc l (tenfold v x) b
-
 -- THE DIGITS READ BACK AS THE NUMBER
 pub reads-back : (n : ℕ) → numeral (digitsOf n) ≡ n
 unfolding numeral
 reads-back = tenths (λ (n : ℕ). numeral (digitsOf n) ≡ n)
     (λ n h. rw (digits-one n h) (omega arith))
-    (λ n h e. rw (digits-more n h, numeral-snoc, e) (omega (arith, div-add-mod n 10)))
+    (λ n h e. rw (digits-more n h, foldl-snoc tenfold, e) (omega (arith, div-add-mod n 10)))
 
 -- they are digits
 every-snoc : (l : List ℕ) (b : ℕ) → every isDigit (l ++ (b ∷ [])) ≡ (every isDigit l && isDigit b)

@@ -12,7 +12,7 @@ use lib.ListN.{length, getD, set, drop, length-append}
 use lib.Seq.{sets, sets-eq, set-comm}
 use Rattle.lines.specs.Decimal.{digitsOf}
 use Rattle.lines.specs.Lines.{putAt, placeAfter}
-use Rattle.recording.proofs.Places.{here}
+use Rattle.listlaws.proofs.Loops.{rest}
 use Rattle.lines.proofs.Decimals.{digits-more}
 
 -- one run and then another is one run
@@ -37,7 +37,7 @@ digit-last l i n h = sets-last (digitsOf (n / 10)) l i (48 + n % 10) ∙ rw (dig
 -- one byte of those that are copied
 pub store-next : (l bytes : List ℕ) (to from : ℕ) → from < length bytes
     → sets (set l to (getD bytes from 0)) (to + 1) (drop (from + 1) bytes) ≡ sets l to (drop from bytes)
-store-next l bytes to from h = rw (here bytes from h, add-one to)
+store-next l bytes to from h = rw (rest bytes from 0 h, add-one to)
 
 -- bytes that fit, and bytes that do not
 module _ (buffer : List ℕ) (at : ℕ) (bytes : List ℕ) where

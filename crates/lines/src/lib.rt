@@ -1,10 +1,11 @@
-// The lines that `follow` prints: decimal numbers and lines written into a buffer. What does not fit is not written at all. Nothing here knows the protocol.
+// The lines that `follow` prints: decimal numbers and lines written into a buffer. What does not fit is not written at all.
+// Nothing here knows the protocol.
 ghost use mathlib.Core.Path.{_≡_};
 ghost use Prim.Native.Nat.{_+_, _≤_};
 ghost use lib.Dec.{leb};
 ghost use lib.ListN.{length};
 ghost use lib.Seq.{sets};
-ghost use Rattle.lines.specs.Decimal.{digitsOf};
+ghost use Rattle.lines.specs.Decimal.{digitsOf, HasDigits};
 ghost use Rattle.lines.specs.Lines.{lineOf, refusalOf, headerOf, putAt, placeAfter};
 ghost use Rattle.lines.specs.Pieces.{fieldBytes, slotBytes, counterBytes};
 
@@ -16,7 +17,8 @@ const LF: u8 = 10;
 
 // How many digits a number has.
 fn digits(value: u64) -> usize
-    ensures { λ r. ⌜ (r ≡ length (digitsOf value)) × (r ≤ 20) ⌝ }
+    ensures count { λ r. ⌜ HasDigits value r ⌝ }
+    ensures few { λ r. ⌜ r ≤ 20 ⌝ }
 {
     let mut count: usize = 1;
     let mut left = value;
@@ -41,8 +43,9 @@ fn has_room(room: usize, at: usize, size: usize) -> bool
 
 // Writes the digits of value, of which there are size, from place at on, and gives the place after them.
 fn write_number(out: &mut [u8], at: usize, size: usize, value: u64) -> usize
-    requires { ⌜ (size ≡ length (digitsOf value)) × (at + size ≤ length (now out)) ⌝ }
-    ensures { λ r. ⌜ (now (out .exit) ≡ sets (now (out .entry)) at (digitsOf value)) × (r ≡ at + size) ⌝ }
+    requires { ⌜ HasDigits value size × (at + size ≤ length (now out)) ⌝ }
+    ensures buffer { λ r. ⌜ now (out .exit) ≡ sets (now (out .entry)) at (digitsOf value) ⌝ }
+    ensures reached { λ r. ⌜ r ≡ at + size ⌝ }
 {
     let mut to = at + size;
     let mut left = value;
@@ -57,8 +60,9 @@ fn write_number(out: &mut [u8], at: usize, size: usize, value: u64) -> usize
 
 // Writes a number and one byte after it.
 fn write_field(out: &mut [u8], at: usize, size: usize, value: u64, after: u8) -> usize
-    requires { ⌜ (size ≡ length (digitsOf value)) × (at + size + 1 ≤ length (now out)) ⌝ }
-    ensures { λ r. ⌜ (now (out .exit) ≡ sets (now (out .entry)) at (fieldBytes value after)) × (r ≡ at + size + 1) ⌝ }
+    requires { ⌜ HasDigits value size × (at + size + 1 ≤ length (now out)) ⌝ }
+    ensures buffer { λ r. ⌜ now (out .exit) ≡ sets (now (out .entry)) at (fieldBytes value after) ⌝ }
+    ensures reached { λ r. ⌜ r ≡ at + size + 1 ⌝ }
 {
     let to = write_number(out, at, size, value);
     out[to] = after;
@@ -68,7 +72,8 @@ fn write_field(out: &mut [u8], at: usize, size: usize, value: u64, after: u8) ->
 // Writes bytes from place at on, and gives the place after them.
 fn write_bytes(out: &mut [u8], at: usize, bytes: &[u8]) -> usize
     requires { ⌜ at + length (now bytes) ≤ length (now out) ⌝ }
-    ensures { λ r. ⌜ (now (out .exit) ≡ sets (now (out .entry)) at (now (bytes .entry))) × (r ≡ at + length (now (bytes .entry))) ⌝ }
+    ensures buffer { λ r. ⌜ now (out .exit) ≡ sets (now (out .entry)) at (now (bytes .entry)) ⌝ }
+    ensures reached { λ r. ⌜ r ≡ at + length (now (bytes .entry)) ⌝ }
 {
     let mut to = at;
     let mut from = 0;
@@ -82,7 +87,8 @@ fn write_bytes(out: &mut [u8], at: usize, bytes: &[u8]) -> usize
 
 // A number in decimal, at place at if it fits there; gives the place after it, or at.
 pub fn put_number(out: &mut [u8], at: usize, value: u64) -> usize
-    ensures { λ r. ⌜ (now (out .exit) ≡ putAt (now (out .entry)) at (digitsOf value)) × (r ≡ placeAfter (now (out .entry)) at (digitsOf value)) ⌝ }
+    ensures buffer { λ r. ⌜ now (out .exit) ≡ putAt (now (out .entry)) at (digitsOf value) ⌝ }
+    ensures reached { λ r. ⌜ r ≡ placeAfter (now (out .entry)) at (digitsOf value) ⌝ }
 {
     let size = digits(value);
     if has_room(out.len(), at, size) {
@@ -93,7 +99,8 @@ pub fn put_number(out: &mut [u8], at: usize, value: u64) -> usize
 
 // The header line, at place at if it fits there; gives the place after it, or at.
 pub fn put_header(out: &mut [u8], at: usize) -> usize
-    ensures { λ r. ⌜ (now (out .exit) ≡ putAt (now (out .entry)) at headerOf) × (r ≡ placeAfter (now (out .entry)) at headerOf) ⌝ }
+    ensures buffer { λ r. ⌜ now (out .exit) ≡ putAt (now (out .entry)) at headerOf ⌝ }
+    ensures reached { λ r. ⌜ r ≡ placeAfter (now (out .entry)) at headerOf ⌝ }
 {
     if has_room(out.len(), at, 24) {
         return write_bytes(out, at, b"slot,group,turn,H,N,RQ\r\n");
@@ -103,8 +110,9 @@ pub fn put_header(out: &mut [u8], at: usize) -> usize
 
 // The line of a refusal, whose numbers have a and b digits.
 fn write_refusal(out: &mut [u8], at: usize, a: usize, number: u64, b: usize, place: u64) -> usize
-    requires { ⌜ (a ≡ length (digitsOf number)) × (b ≡ length (digitsOf place)) × (at + a + b + 11 ≤ length (now out)) ⌝ }
-    ensures { λ r. ⌜ (now (out .exit) ≡ sets (now (out .entry)) at (refusalOf number place)) × (r ≡ at + a + b + 11) ⌝ }
+    requires { ⌜ HasDigits number a × HasDigits place b × (at + a + b + 11 ≤ length (now out)) ⌝ }
+    ensures buffer { λ r. ⌜ now (out .exit) ≡ sets (now (out .entry)) at (refusalOf number place) ⌝ }
+    ensures reached { λ r. ⌜ r ≡ at + a + b + 11 ⌝ }
 {
     let first = write_bytes(out, at, b"refused,");
     let second = write_field(out, first, a, number, COMMA);
@@ -115,7 +123,8 @@ fn write_refusal(out: &mut [u8], at: usize, a: usize, number: u64, b: usize, pla
 
 // The line of a refusal, at place at if it fits there; gives the place after it, or at.
 pub fn put_refusal(out: &mut [u8], at: usize, number: u8, place: u64) -> usize
-    ensures { λ r. ⌜ (now (out .exit) ≡ putAt (now (out .entry)) at (refusalOf number place)) × (r ≡ placeAfter (now (out .entry)) at (refusalOf number place)) ⌝ }
+    ensures buffer { λ r. ⌜ now (out .exit) ≡ putAt (now (out .entry)) at (refusalOf number place) ⌝ }
+    ensures reached { λ r. ⌜ r ≡ placeAfter (now (out .entry)) at (refusalOf number place) ⌝ }
 {
     let a = digits(number as u64);
     let b = digits(place);
@@ -135,8 +144,9 @@ fn write_slot(
     group: u64,
     turn: u8,
 ) -> usize
-    requires { ⌜ (a ≡ length (digitsOf slot)) × (b ≡ length (digitsOf group)) × (at + a + b + 4 ≤ length (now out)) ⌝ }
-    ensures { λ r. ⌜ (now (out .exit) ≡ sets (now (out .entry)) at (slotBytes slot group turn)) × (r ≡ at + a + b + 4) ⌝ }
+    requires { ⌜ HasDigits slot a × HasDigits group b × (at + a + b + 4 ≤ length (now out)) ⌝ }
+    ensures buffer { λ r. ⌜ now (out .exit) ≡ sets (now (out .entry)) at (slotBytes slot group turn) ⌝ }
+    ensures reached { λ r. ⌜ r ≡ at + a + b + 4 ⌝ }
 {
     let first = write_field(out, at, a, slot, COMMA);
     let second = write_field(out, first, b, group, COMMA);
@@ -157,8 +167,9 @@ fn write_counters(
     c: usize,
     resolution: u64,
 ) -> usize
-    requires { ⌜ (a ≡ length (digitsOf urgent)) × (b ≡ length (digitsOf long)) × (c ≡ length (digitsOf resolution)) × (at + a + b + c + 4 ≤ length (now out)) ⌝ }
-    ensures { λ r. ⌜ (now (out .exit) ≡ sets (now (out .entry)) at (counterBytes urgent long resolution)) × (r ≡ at + a + b + c + 4) ⌝ }
+    requires { ⌜ HasDigits urgent a × HasDigits long b × HasDigits resolution c × (at + a + b + c + 4 ≤ length (now out)) ⌝ }
+    ensures buffer { λ r. ⌜ now (out .exit) ≡ sets (now (out .entry)) at (counterBytes urgent long resolution) ⌝ }
+    ensures reached { λ r. ⌜ r ≡ at + a + b + c + 4 ⌝ }
 {
     let first = write_field(out, at, a, urgent, COMMA);
     let second = write_field(out, first, b, long, COMMA);
@@ -178,7 +189,8 @@ pub fn put_line(
     long: u16,
     resolution: u16,
 ) -> usize
-    ensures { λ r. ⌜ (now (out .exit) ≡ putAt (now (out .entry)) at (lineOf slot group turn urgent long resolution)) × (r ≡ placeAfter (now (out .entry)) at (lineOf slot group turn urgent long resolution)) ⌝ }
+    ensures buffer { λ r. ⌜ now (out .exit) ≡ putAt (now (out .entry)) at (lineOf slot group turn urgent long resolution) ⌝ }
+    ensures reached { λ r. ⌜ r ≡ placeAfter (now (out .entry)) at (lineOf slot group turn urgent long resolution) ⌝ }
 {
     let a = digits(slot);
     let b = digits(group as u64);

@@ -7,7 +7,8 @@ use lib.ListN.{length, getD, take}
 use lib.Seq.{take-suc}
 
 module _ {A B : Type 0} (step : B → A → B) where
-  foldl-snoc : (b : B) (l : List A) (x : A) → foldl step b (l ++ (x ∷ [])) ≡ step (foldl step b l) x
+  -- the last element
+  pub foldl-snoc : (b : B) (l : List A) (x : A) → foldl step b (l ++ (x ∷ [])) ≡ step (foldl step b l) x
   foldl-snoc b [] x = refl
   foldl-snoc b (y ∷ l) x = foldl-snoc (step b y) l x
 

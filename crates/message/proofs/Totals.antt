@@ -67,9 +67,10 @@ unfolding slotTotalOf
 refused bytes e = rw e
 
 -- an answer that is the slot total has its number and its slots
-pub slots-told : (bytes : ℕ) (r : SlotTotal) → r ≡ slotTotalOf bytes → (r ≡ slotTotalOf bytes) × (numberOf r ≡ slotsNumberOf bytes) × (totalOf r ≡ slotsGivenOf bytes)
+pub slots-told : (bytes : ℕ) (r : SlotTotal) → r ≡ slotTotalOf bytes
+    → (r ≡ slotTotalOf bytes) × ((numberOf r ≡ slotsNumberOf bytes) × (totalOf r ≡ slotsGivenOf bytes))
 unfolding slotTotalOf slotsNumberOf slotsGivenOf numberOf totalOf
-slots-told bytes r e = let t = go (fitsMessage bytes) in (e, ap numberOf e ∙ t .0, ap totalOf e ∙ t .1)
+slots-told bytes r e = let t = go (fitsMessage bytes) in (e, (ap numberOf e ∙ t .0, ap totalOf e ∙ t .1))
   where
     go : (b : Bool) → (numberOf (cond b (Slots (slotsFor bytes)) (Refused 10)) ≡ cond b 0 10) × (totalOf (cond b (Slots (slotsFor bytes)) (Refused 10)) ≡ cond b (slotsFor bytes) 0)
     go true = (refl, refl)

@@ -14,7 +14,9 @@ pub enum SlotTotal {
 
 // The slot total of a message of this many bytes.
 pub fn slots(bytes: usize) -> SlotTotal
-    ensures { λ r. ⌜ (r ≡ slotTotalOf bytes) × (numberOf r ≡ slotsNumberOf bytes) × (totalOf r ≡ slotsGivenOf bytes) ⌝ }
+    ensures answer { λ r. ⌜ r ≡ slotTotalOf bytes ⌝ }
+    ensures number { λ r. ⌜ numberOf r ≡ slotsNumberOf bytes ⌝ }
+    ensures total { λ r. ⌜ totalOf r ≡ slotsGivenOf bytes ⌝ }
 {
     if bytes == 0 {
         return SlotTotal::Refused(10);
@@ -27,7 +29,8 @@ pub fn slots(bytes: usize) -> SlotTotal
 
 // A refusal of a segment: its number, and an empty part.
 fn refuse<'a>(message: &'a [u8], refusal: u8, number: &mut u8) -> &'a [u8]
-    ensures { λ r. ⌜ (now r ≡ []) × (now (number .exit) ≡ refusal) ⌝ }
+    ensures part { λ r. ⌜ now r ≡ [] ⌝ }
+    ensures told { λ r. ⌜ now (number .exit) ≡ refusal ⌝ }
 {
     *number = refusal;
     &message[0..0]
@@ -42,7 +45,8 @@ fn least(a: usize, b: usize) -> usize
 // Segment j of a message: the sender's own bytes, handed back as a part of the message lent, which stays as it is. The
 // number lent is set to 0, or on a refusal, where the part is empty, to 10 or 13.
 pub fn segment<'a>(message: &'a [u8], j: usize, number: &mut u8) -> &'a [u8]
-    ensures { λ r. ⌜ (now r ≡ segmentOf (now (message .entry)) j) × (now (number .exit) ≡ segmentNumber (length (now (message .entry))) j) ⌝ }
+    ensures part { λ r. ⌜ now r ≡ segmentOf (now (message .entry)) j ⌝ }
+    ensures told { λ r. ⌜ now (number .exit) ≡ segmentNumber (length (now (message .entry))) j ⌝ }
 {
     let bytes = message.len();
     let SlotTotal::Slots(total) = slots(bytes) else {

@@ -35,7 +35,8 @@ readingAnswer (Refused n) = (n, [])
 abbrev pub numberOf : Reading → ℕ
 numberOf r = readingAnswer r .0
 
--- the number of a word and a count, in the paper's order. 1: a one above bit 11. 2: one to five ones. 3: Single with count 0. 4: Empty with count above 0
+-- the number of a word and a count, in the paper's order. 1: a one above bit 11. 2: one to five ones. 3: Single with count 0. 4: Empty with
+-- count above 0
 abbrev pub readingNumberOf : ℕ → ℕ → ℕ
 readingNumberOf word count =
     cond (ltb 4095 word) 1

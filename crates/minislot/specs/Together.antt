@@ -2,8 +2,9 @@
 -- them. Assumes nothing.
 use mathlib.Core.Path.{_≡_}
 use mathlib.Core.List.{List, [], _∷_}
-use Prim.Native.Nat.{ℕ, _≤_, _<_}
+use Prim.Native.Nat.{ℕ, zero, suc, _≤_, _<_}
 use lib.Bits.{bitOr}
+use lib.ListN.{getD, set}
 use Rattle.pattern.specs.Patterns.{wordOf}
 use Rattle.minislot.specs.declared.Minislot.{Minislot}
 use Rattle.minislot.specs.declared.Feedback.{Feedback}
@@ -27,6 +28,12 @@ joined a b = record { word = bitOr (a .word) (b .word); count = bitOr (a .count)
 unfoldable pub together : List Minislot → Minislot
 together [] = silent
 together (a ∷ l) = joined a (together l)
+
+-- a request joins its minislot of a row, counted from 1: what was there first, then the request; 0 for none, and a minislot beyond the row
+-- changes nothing
+abbrev pub placed : ℕ → Minislot → List Minislot → List Minislot
+placed zero x l = l
+placed (suc j) x l = set l j (joined (getD l j silent) x)
 
 -- who spoke alone, for how many slots; or that nobody did, or two or more
 abbrev pub spoken : List Request → Feedback

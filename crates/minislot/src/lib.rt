@@ -1,4 +1,6 @@
-// A minislot: what is heard of it as a word and a count, and what that reads as; a row of them.
+// A minislot: what is heard of it as a word and a count, and what that reads as; a row of them, read and made.
+pub mod sending; // making a row
+
 ghost use mathlib.Core.Path.{_≡_};
 ghost use Rattle.minislot.specs.Reading.{readingOf, singleOf, emptyOf, numberOf, readingAnswer, readingAnswerOf};
 ghost use Rattle.minislot.specs.Row.{minislotsOf, rowOf, rowAtOf, rowAnswer, weightOf};

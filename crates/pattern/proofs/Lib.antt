@@ -1,3 +1,4 @@
 pub mod Ones
 pub mod Those
 pub mod Patterns
+pub mod Halves

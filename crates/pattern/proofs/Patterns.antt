@@ -2,17 +2,12 @@
 -- word are inverse. From the laws on the numbers of a range that pass a test, and the count computed once.
 -- Assumes nothing.
 use mathlib.Core.Path.{_≡_, refl, ap, _∙_, sym, subst}
-use mathlib.Core.Bool.{Bool, true}
-use mathlib.Core.List.{List, [], _∷_, map}
-use Prim.Native.Nat.{ℕ, zero, suc, _+_, _*_, _/_, _%_, _≤_, _<_}
+use Prim.Native.Nat.{ℕ, _≤_, _<_}
 use native.Mathlib.Omega.{arith}
 use borrow.Author.Tests.{eq-eqb, eqb-true}
 use lib.Count.{ones, onesIn}
-use lib.Dec.{eqb}
-use lib.ListN.{length, getD, List·getD-eq-default}
-use Rattle.pattern.specs.Patterns.{those, sixOnes, patterns, wordOf, indexOf}
-use Rattle.listlaws.specs.Every.{everyFrom}
-use Rattle.listlaws.proofs.Table.{every-at}
+use lib.ListN.{length, List·getD-eq-default}
+use Rattle.pattern.specs.Patterns.{sixOnes, patterns, wordOf, indexOf}
 use Rattle.pattern.proofs.Ones.{ones-within}
 use Rattle.pattern.proofs.Those.{Found, in-range, rises, passes, all-there, place-at, place-none}
 
@@ -73,34 +68,3 @@ no-index w other =
     let q : k < 924 = rw count-of-patterns at h in
     other (subst (λ (x : ℕ). x < 4096) e (pattern-below k q), ap ones (sym e) ∙ pattern-ones k q))
     ∙ count-of-patterns
-
--- ---- the look-up in two halves
-
--- the n numbers from i on
-numbers : ℕ → ℕ → List ℕ
-numbers i zero = []
-numbers i (suc n) = i ∷ numbers (suc i) n
-
--- the patterns with a smaller upper half than each of the 64
-unfoldable pub before : List ℕ
-unfolding numbers those sixOnes
-before = map (λ h. length (those sixOnes 0 (h * 64))) (numbers 0 64)
-
--- the numbers of six digits below each of the 64 that have as many ones
-unfoldable pub rank : List ℕ
-unfolding numbers those onesIn
-rank = map (λ l. length (those (λ x. eqb (onesIn 6 x) (onesIn 6 l)) 0 l)) (numbers 0 64)
-
-halves : ℕ → ℕ → Bool
-halves i w = eqb (getD before (w / 64) 0 + getD rank (w % 64) 0) i
-
-halves-of-all : everyFrom halves 0 patterns ≡ true
-unfolding patterns halves before rank
-halves-of-all = refl
-
-pub index-in-halves : (w : ℕ) → w < 4096 → ones w ≡ 6 → getD before (w / 64) 0 + getD rank (w % 64) 0 ≡ indexOf w
-unfolding halves wordOf
-index-in-halves w h e =
-    let p = pattern-of w h e in
-    subst (λ (x : ℕ). getD before (x / 64) 0 + getD rank (x % 64) 0 ≡ indexOf w) (p .1)
-    (eqb-true _ _ (every-at halves 0 patterns halves-of-all (indexOf w) (rw count-of-patterns (p .0))))

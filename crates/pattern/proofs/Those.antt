@@ -10,7 +10,8 @@ use native.Mathlib.Nat.{le-of-suc-le-suc, not-suc-le-zero, eq-or-lt-of-le}
 use native.Mathlib.Omega.{arith}
 use borrow.Author.Tests.{eq-eqb, ne-eqb}
 use lib.ListN.{length, getD}
-use Rattle.pattern.specs.Patterns.{keepIf, those, placeOf}
+use Rattle.listlaws.specs.Lists.{keepIf}
+use Rattle.pattern.specs.Patterns.{those, placeOf}
 
 -- later entries are greater
 abbrev pub Rises : List ℕ → Type 0

@@ -6,10 +6,7 @@ use Prim.Native.Nat.{ℕ, zero, suc}
 use lib.Dec.{eqb}
 use lib.ListN.{getD}
 use lib.Count.{onesIn}
-
-abbrev pub keepIf : Bool → ℕ → List ℕ → List ℕ
-keepIf true i l = i ∷ l
-keepIf false i l = l
+use Rattle.listlaws.specs.Lists.{keepIf}
 
 -- those of the n numbers from i on that pass a test, in rising order
 unfoldable pub those : (ℕ → Bool) → ℕ → ℕ → List ℕ

@@ -1,8 +1,9 @@
-// The 924 patterns rebuilt another way than the library's table was made, and held against the library in both directions.
+// The 924 patterns rebuilt another way than the library's table was made, and compared with the library in both directions.
 //
 // The walk goes through the numbers below 4096 and counts the ones of each by halving it. Each line has how many were tried and how
 // many were as they must be.
-use libc::STDOUT_FILENO;
+use runs_text::decimal;
+use runs_text::text;
 ghost use mathlib.Core.Path.{_≡_};
 ghost use Prim.Native.Nat.{_≤_};
 ghost use lib.ListN.{length};
@@ -159,17 +160,17 @@ fn indexes_without_word() -> usize {
     count
 }
 
-// A line's text, then a number.
-fn part(text: &[u8], number: u64) {
-    io::write_all(STDOUT_FILENO, text);
-    io::print_decimal(STDOUT_FILENO, number);
+// Some of a line's text, then a number.
+fn part(what: &[u8], n: u64) {
+    text(what);
+    decimal(n);
 }
 
 // A line: a number, what was tried, how many of them were right, and in what.
 fn line(tried: usize, what: &[u8], right: usize, how: &[u8]) {
-    part(b"", tried as u64);
+    decimal(tried as u64);
     part(what, right as u64);
-    io::write_all(STDOUT_FILENO, how);
+    text(how);
 }
 
 fn ends(words: &[u16]) {
@@ -179,15 +180,15 @@ fn ends(words: &[u16]) {
     }
     part(b"first word ", wide(words[0]));
     part(b", last word ", wide(words[n - 1]));
-    io::write_all(STDOUT_FILENO, b"\n");
+    text(b"\n");
 }
 
-// The patterns, held against the table lent and against both look-ups.
+// The patterns, compared with the table lent and against both look-ups.
 fn patterns(words: &[u16], table: &[u16; 924])
     requires { ⌜ length (now words) ≤ 4096 ⌝ }
 {
     let n = words.len();
-    io::write_all(STDOUT_FILENO, b"rebuilt ");
+    text(b"rebuilt ");
     line(
         n,
         b" words, ",
@@ -198,7 +199,7 @@ fn patterns(words: &[u16], table: &[u16; 924])
     line(n, b" words, ", by_word(words), b" with index_of equal\n");
     ends(words);
     part(b"sum of the words ", sum(words));
-    io::write_all(STDOUT_FILENO, b"\n");
+    text(b"\n");
 }
 
 // The words and indexes that are no pattern's.

@@ -15,7 +15,7 @@ use Rattle.recording.specs.Fields.{onto, parts, every, isDigit, isField,
 use Rattle.recording.specs.Steps.{none, fieldOf}
 use Rattle.recording.specs.declared.fields.Field.{Field}
 use Rattle.recording.specs.declared.fields.Field.the-variants.{Number, Broken}
-use Rattle.recording.proofs.Places.{here}
+use Rattle.listlaws.proofs.Loops.{rest}
 
 -- a record has one part at least
 some-onto : (b : ℕ) (ps : List (List ℕ)) → none (onto b ps) ≡ false
@@ -124,7 +124,7 @@ module _ (at v d : ℕ) (bytes : List ℕ) where
 
   at-comma : at < length bytes → getD bytes at 0 ≡ 44 → readFrom at v d (parts (drop at bytes)) ≡ one at v d [] false
   unfolding readFrom parts
-  at-comma h e = rw (here bytes at h, eq-eqb _ _ e, some-parts (drop (at + 1) bytes))
+  at-comma h e = rw (rest bytes at 0 h, eq-eqb _ _ e, some-parts (drop (at + 1) bytes))
 
   pub comma-none : at < length bytes → getD bytes at 0 ≡ 44 → d ≡ 0 → readFrom at v d (parts (drop at bytes)) ≡ Broken
   comma-none h c e = at-comma h c ∙ one-none at v d false e
@@ -134,7 +134,7 @@ module _ (at v d : ℕ) (bytes : List ℕ) where
 
   at-byte : at < length bytes → (getD bytes at 0 ≡ 44 → ⊥) → parts (drop at bytes) ≡ onto (getD bytes at 0) (parts (drop (at + 1) bytes))
   unfolding parts
-  at-byte h n = rw (here bytes at h, ne-eqb _ _ n)
+  at-byte h n = rw (rest bytes at 0 h, ne-eqb _ _ n)
 
   pub byte-other : at < length bytes → (getD bytes at 0 ≡ 44 → ⊥) → isDigit (getD bytes at 0) ≡ false → readFrom at v d (parts (drop at bytes)) ≡ Broken
   byte-other h n e = rw (at-byte h n) (onto-other at v d _ _ e)

@@ -14,10 +14,10 @@ use Rattle.recording.specs.Fields.{onto, parts, every, isField, numeral,
 use Rattle.recording.specs.Steps.{none, isWord, isCount, afterWord, pairOf}
 use Rattle.recording.specs.Row.{wordsOf, countsOf, withinRange, firstOnes, brokenRow, rowWith, rowFrom, rowOf}
 use Rattle.recording.specs.declared.fields.Pair.the-variants.{Both, Odd, Broken}
-use Rattle.recording.specs.declared.fields.Row.{Row}
+use Rattle.recording.specs.declared.fields.RowFields.{RowFields}
 use Rattle.recording.proofs.Pairs.{none-true, parts-after}
 
-pub goRow : ℕ → List ℕ → List ℕ → List (List ℕ) → Row
+pub goRow : ℕ → List ℕ → List ℕ → List (List ℕ) → RowFields
 goRow k ws cs [] = rowWith (k * 2) ws cs
 goRow k ws cs (p ∷ []) = cond (isWord p) (rowWith (k * 2 + 1) (set ws k (numeral p)) cs) brokenRow
 goRow k ws cs (p ∷ q ∷ ps) =

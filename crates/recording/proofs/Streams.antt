@@ -2,6 +2,7 @@
 -- `settled`: an answer other than More stays as it is, whatever bytes come after; so it does not depend on how the input is divided into reads;
 -- `enough-bytes`: More is answered only of fewer than 130 bytes, so a buffer of 130 bytes is enough;
 -- `extent`: a record lies inside the bytes, has 128 bytes at most, and the next begins after its start.
+-- `begins-moved`: bytes in front of a record move its places by as many and change nothing else;
 -- `moved-on`: where the bytes before the record are dropped, every place is that much lower, so a buffer may be moved up.
 -- Assumes nothing.
 use mathlib.Core.Bool.{Bool, true, false, cond}
@@ -186,11 +187,13 @@ goes-moved ended k at (suc room) (b ∷ l) =
       goes-moved ended k (at + 1) room l,
     )
 
-begins-moved : (ended : Bool) (k : ℕ) (l : List ℕ) → begins ended k l ≡ moved k (begins ended 0 l)
+pub begins-moved : (ended : Bool) (k at : ℕ) (l : List ℕ) → begins ended (k + at) l ≡ moved k (begins ended at l)
 unfolding begins moved
-begins-moved ended k [] = sym (moved-cond k ended Done More)
-begins-moved ended k (b ∷ l) = let z : k + 0 ≡ k = omega arith in ap (λ (n : ℕ). goesOn ended n 128 (b ∷ l)) (sym z) ∙ goes-moved ended k 0 128 (b ∷ l)
+begins-moved ended k at [] = sym (moved-cond k ended Done More)
+begins-moved ended k at (b ∷ l) = goes-moved ended k at 128 (b ∷ l)
 
 pub moved-on : (bytes : List ℕ) (start : ℕ) (ended : Bool) → cutOf bytes start ended ≡ moved start (cutOf (drop start bytes) 0 ended)
 unfolding cutOf
-moved-on bytes start ended = begins-moved ended start (drop start bytes)
+moved-on bytes start ended =
+    let z : start ≡ start + 0 = omega arith in
+    ap (λ (n : ℕ). begins ended n (drop start bytes)) z ∙ begins-moved ended start 0 (drop start bytes)

@@ -32,7 +32,8 @@ begins ended at (b ∷ rest) = goesOn ended at 128 (b ∷ rest)
 unfoldable pub cutOf : List ℕ → ℕ → Bool → Cut
 cutOf bytes start ended = begins ended start (drop start bytes)
 
--- The paper's number of each answer (0 where there is none), and the places that it carries: where the record ends, and where the next begins.
+-- The paper's number of each answer (0 where there is none), and the places that it carries: where the record ends, and where the next
+-- begins.
 abbrev pub cutAnswer : Cut → ℕ × List ℕ
 cutAnswer (Record end next) = (0, end ∷ next ∷ [])
 cutAnswer More = (0, [])

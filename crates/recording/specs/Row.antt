@@ -6,7 +6,7 @@ use Prim.Native.Nat.{ℕ, zero, suc}
 use lib.Dec.{leb}
 use lib.ListN.{length, replicate}
 use Rattle.recording.specs.Fields.{wellFormed, fieldsOf}
-use Rattle.recording.specs.declared.fields.Row.{Row}
+use Rattle.recording.specs.declared.fields.RowFields.{RowFields}
 
 -- the 1st, 3rd, 5th .. of the fields are words, the 2nd, 4th, 6th .. are counts
 unfoldable pub wordsOf : List ℕ → List ℕ
@@ -32,16 +32,16 @@ firstOnes (suc n) [] = 0 ∷ firstOnes n []
 firstOnes (suc n) (x ∷ l) = x ∷ firstOnes n l
 
 -- a row that is answered 19
-unfoldable pub brokenRow : Row
+unfoldable pub brokenRow : RowFields
 brokenRow = record { number = 19; fields = 0; words = replicate 8 0; counts = replicate 8 0 }
 
 -- a row that is answered 0
-abbrev pub rowWith : ℕ → List ℕ → List ℕ → Row
+abbrev pub rowWith : ℕ → List ℕ → List ℕ → RowFields
 rowWith n ws cs = record { number = 0; fields = n; words = ws; counts = cs }
 
 -- a row of these fields
-unfoldable pub rowFrom : List ℕ → Row
+unfoldable pub rowFrom : List ℕ → RowFields
 rowFrom l = rowWith (length l) (firstOnes 8 (wordsOf l)) (firstOnes 8 (countsOf l))
 
-unfoldable pub rowOf : List ℕ → Row
+unfoldable pub rowOf : List ℕ → RowFields
 rowOf bytes = cond (wellFormed bytes && withinRange (fieldsOf bytes)) (rowFrom (fieldsOf bytes)) brokenRow

@@ -1,4 +1,5 @@
--- The private steps on the way to `firstOf` and `rowOf`: what the readers of one field and of one pair of fields answer, of the parts from a place on.
+-- The private steps on the way to `firstOf` and `rowOf`: what the readers of one field and of one pair of fields answer, of the parts from
+-- a place on.
 use mathlib.Core.Bool.{Bool, true, false, cond, _&&_}
 use mathlib.Core.List.{List, [], _∷_}
 use Prim.Native.Nat.{ℕ, _+_}

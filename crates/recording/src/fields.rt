@@ -27,7 +27,7 @@ pub enum First {
 }
 
 // A row: number 0, how many fields it has, and the first eight words and counts (0 where there are fewer); or number 19 and nothing else.
-pub struct Row {
+pub struct RowFields {
     pub number: u8,
     pub fields: usize,
     pub words: [u16; 8],
@@ -98,7 +98,8 @@ fn pair_at(bytes: &[u8], start: usize) -> Pair
 
 // The two numbers of the first record.
 pub fn first_fields(bytes: &[u8]) -> First
-    ensures { λ r. ⌜ (r ≡ firstOf (now (bytes .entry))) × (firstAnswer r ≡ firstAnswerOf (now (bytes .entry))) ⌝ }
+    ensures first { λ r. ⌜ r ≡ firstOf (now (bytes .entry)) ⌝ }
+    ensures answer { λ r. ⌜ firstAnswer r ≡ firstAnswerOf (now (bytes .entry)) ⌝ }
 {
     if LONGEST < bytes.len() {
         return First::Broken;
@@ -142,10 +143,10 @@ fn with_count(counts: [u8; 8], place: usize, count: u8) -> [u8; 8]
     changed
 }
 
-fn broken_row() -> Row
+fn broken_row() -> RowFields
     ensures { λ r. ⌜ r ≡ brokenRow ⌝ }
 {
-    Row {
+    RowFields {
         number: 19,
         fields: 0,
         words: [0u16; 8],
@@ -153,10 +154,10 @@ fn broken_row() -> Row
     }
 }
 
-fn whole_row(fields: usize, words: [u16; 8], counts: [u8; 8]) -> Row
+fn whole_row(fields: usize, words: [u16; 8], counts: [u8; 8]) -> RowFields
     ensures { λ r. ⌜ r ≡ rowWith fields words counts ⌝ }
 {
-    Row {
+    RowFields {
         number: 0,
         fields,
         words,
@@ -165,7 +166,7 @@ fn whole_row(fields: usize, words: [u16; 8], counts: [u8; 8]) -> Row
 }
 
 // The fields of a row.
-pub fn row_fields(bytes: &[u8]) -> Row
+pub fn row_fields(bytes: &[u8]) -> RowFields
     ensures { λ r. ⌜ r ≡ rowOf (now (bytes .entry)) ⌝ }
 {
     if LONGEST < bytes.len() {

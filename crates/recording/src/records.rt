@@ -46,7 +46,8 @@ fn after_return(bytes: &[u8], at: usize, ended: bool) -> Cut
 
 // Where the record ends that begins at place start; ended: no byte comes after these. It looks at 130 bytes at most.
 pub fn cut_record(bytes: &[u8], start: usize, ended: bool) -> Cut
-    ensures { λ r. ⌜ (r ≡ cutOf (now (bytes .entry)) start ended) × (cutAnswer r .0 ≡ cutNumberOf (now (bytes .entry)) start ended) ⌝ }
+    ensures cut { λ r. ⌜ r ≡ cutOf (now (bytes .entry)) start ended ⌝ }
+    ensures number { λ r. ⌜ cutAnswer r .0 ≡ cutNumberOf (now (bytes .entry)) start ended ⌝ }
 {
     if bytes.len() <= start {
         if ended {

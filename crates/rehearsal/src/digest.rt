@@ -1,12 +1,12 @@
 // A digest of answers, tables and wires: each number of them, in order, is added to 31 times the digest before, below 1,000,000,007.
-use held::Channel;
+use local_channel::LocalChannel;
 use rules::Answer;
 use rules::Condition;
 use rules::Counters;
-use rules::Row;
 use rules::Station;
 use rules::Turn;
-use tables::least;
+use rules::WireRow;
+use runs_tables::least;
 
 pub(crate) fn add(d: u64, x: u64) -> u64 {
     (d % 1000000007 * 31 + x % 1000000007) % 1000000007
@@ -103,7 +103,7 @@ fn station_digest(d: u64, s: Station) -> u64 {
     condition_digest(add16(counters_digest(d, c), s.index), k)
 }
 
-fn row_digest(d: u64, row: Row) -> u64 {
+fn row_digest(d: u64, row: WireRow) -> u64 {
     let minislots = row.minislots;
     let mut d = d;
     let mut j: usize = 0;
@@ -115,7 +115,7 @@ fn row_digest(d: u64, row: Row) -> u64 {
     d
 }
 
-fn wire_digest(d: u64, wire: [Row; 8]) -> u64 {
+fn wire_digest(d: u64, wire: [WireRow; 8]) -> u64 {
     let mut d = d;
     let mut g: usize = 0;
     while g < 8 {
@@ -127,7 +127,7 @@ fn wire_digest(d: u64, wire: [Row; 8]) -> u64 {
 }
 
 // Every station's record, then the wire.
-pub(crate) fn channel_digest(d: u64, c: Channel) -> u64 {
+pub(crate) fn channel_digest(d: u64, c: LocalChannel) -> u64 {
     let stations = c.stations;
     let wire = c.wire;
     let end = least(c.count, 65);

@@ -1,25 +1,26 @@
-// Channels of 1, 2, 7 and 64 stations, with 1, 3 and 8 groups, driven through thousands of slots. Arrivals, sizes, picks and bad calls come from one
-// arithmetic rule. What is printed must be what a plain channel of queues gives, a program made apart from this one.
+// Channels of 1, 2, 7 and 64 stations, with 1, 3 and 8 groups, driven through thousands of slots. Arrivals, sizes, picks and bad calls come
+// from one arithmetic rule. What is printed must be what a plain channel of queues gives, a program made apart from this one.
 //
-// A line for each channel: stations, n, m; slots with the turn urgent, long, resolve, open; calls refused by 9, 10, 16, 17, 11, and by any other number;
-// messages taken, data senders; slots taken, delivered, waiting; and a digest of every answer and, after every eighth slot, of every record and the wire.
+// A line for each channel: stations, n, m; slots with the turn urgent, long, resolve, open; calls refused by 9, 10, 16, 17, 11, and by any
+// other number; messages taken, data senders; slots taken, delivered, waiting; and a digest of every answer and, after every eighth slot,
+// of every record and the wire.
 mod digest;
 mod totals;
 
-use arrivals::ARRIVES;
-use arrivals::BAD;
-use arrivals::BAD_KIND;
-use arrivals::draw;
-use arrivals::picks_of;
-use arrivals::rarity;
-use arrivals::size;
 use digest::answer_digest;
 use digest::channel_digest;
-use held::Channel;
-use printing::field;
-use printing::text;
-use tables::blank;
-use tables::least;
+use local_channel::LocalChannel;
+use runs_arrivals::ARRIVES;
+use runs_arrivals::BAD;
+use runs_arrivals::BAD_KIND;
+use runs_arrivals::draw;
+use runs_arrivals::picks_of;
+use runs_arrivals::rarity;
+use runs_arrivals::size;
+use runs_tables::blank;
+use runs_tables::least;
+use runs_text::field;
+use runs_text::text;
 use totals::Totals;
 use totals::counted;
 use totals::no_totals;
@@ -29,7 +30,7 @@ const SLOTS: u64 = 3000;
 
 // A channel under way: its state, its totals and its digest.
 struct Drive {
-    channel: Channel,
+    channel: LocalChannel,
     totals: Totals,
     digest: u64,
 }
@@ -41,7 +42,7 @@ fn index_of(k: usize, n: u8) -> u16 {
     (k % 65) as u16 * 14 + n as u16
 }
 
-fn started(count: usize, m: u8, n: u8) -> Channel {
+fn started(count: usize, m: u8, n: u8) -> LocalChannel {
     let mut indexes = [0u16; 65];
     let mut k: usize = 0;
     while k < 65 {
@@ -49,7 +50,7 @@ fn started(count: usize, m: u8, n: u8) -> Channel {
         k += 1;
     }
     let end = least(count, 65);
-    let r = held::start(blank(count), m, n, &indexes[0..end]);
+    let r = local_channel::start(blank(count), m, n, &indexes[0..end]);
     r.channel
 }
 
@@ -58,7 +59,7 @@ fn started(count: usize, m: u8, n: u8) -> Channel {
 fn offered(d: Drive, index: u16, bytes: usize) -> Drive {
     let c = d.channel;
     let totals = d.totals;
-    let r = held::offer(c, index, bytes);
+    let r = local_channel::offer(c, index, bytes);
     let channel = r.channel;
     let answer = r.answer;
     Drive {
@@ -71,7 +72,7 @@ fn offered(d: Drive, index: u16, bytes: usize) -> Drive {
 fn slotted(d: Drive, picks: &[u8]) -> Drive {
     let c = d.channel;
     let totals = d.totals;
-    let r = held::slot(c, picks);
+    let r = local_channel::slot(c, picks);
     let channel = r.channel;
     let answer = r.answer;
     Drive {
@@ -123,8 +124,8 @@ fn bad_slot(d: Drive, kind: u64, picks: [u8; 66], count: usize, m: u8) -> Drive 
     slot_with(d, picks, count)
 }
 
-// A call that must be refused, in one slot of sixteen: an offer to no station, of nothing, of too much; a slot with a pick too many, too few, of 0,
-// above m.
+// A call that must be refused, in one slot of sixteen: an offer to no station, of nothing, of too much; a slot with a pick too many, too
+// few, of 0, above m.
 fn bad_call(d: Drive, s: u64, count: usize, m: u8, n: u8) -> Drive {
     if draw(s, 0, BAD, 16) != 0 {
         return d;

@@ -1,10 +1,10 @@
 // What is counted of a channel's answers, and what waits in its stations.
-use held::Channel;
-use printing::field;
+use local_channel::LocalChannel;
 use rules::Answer;
 use rules::Condition;
 use rules::Turn;
-use tables::least;
+use runs_tables::least;
+use runs_text::field;
 
 // Where each total stands.
 const TURN_URGENT: usize = 0;
@@ -84,9 +84,8 @@ pub(crate) fn counted(t: Totals, answer: Answer) -> Totals {
         Answer::Went {
             turn,
             senders,
-            index: _,
-            segment: _,
             delivered,
+            ..
         } => {
             let by_turn = grown(t, turn_place(turn), 1);
             let sent = grown(by_turn, SENDERS, senders as u64);
@@ -100,27 +99,15 @@ fn waiting_of(k: Condition) -> u64 {
     match k {
         Condition::Free => 0,
         Condition::Fresh { total } => total as u64,
-        Condition::Asked {
-            group: _,
-            minislot: _,
-            total,
-        } => total as u64,
-        Condition::Resolving {
-            group: _,
-            place: _,
-            total,
-        } => total as u64,
-        Condition::Urgent { place: _ } => 1,
-        Condition::Long {
-            first: _,
-            left,
-            total: _,
-        } => left as u64,
+        Condition::Asked { total, .. } => total as u64,
+        Condition::Resolving { total, .. } => total as u64,
+        Condition::Urgent { .. } => 1,
+        Condition::Long { left, .. } => left as u64,
     }
 }
 
 // The slots that wait in all stations.
-fn waiting(c: Channel) -> u64 {
+fn waiting(c: LocalChannel) -> u64 {
     let stations = c.stations;
     let end = least(c.count, 65);
     let mut sum: u64 = 0;
@@ -135,7 +122,7 @@ fn waiting(c: Channel) -> u64 {
 }
 
 // All totals, in the order of their places, and what waits.
-pub(crate) fn totals_text(t: Totals, c: Channel) {
+pub(crate) fn totals_text(t: Totals, c: LocalChannel) {
     let sums = t.sums;
     let mut i: usize = 0;
     while i < 14 {

@@ -9,7 +9,7 @@ use Rattle.rules.proofs.QueueViews.{shifted-nil}
 use Rattle.rules.proofs.Clauses.{asks, front}
 use Rattle.rules.proofs.Relation.{freshOf, askedOf, resolvingOf}
 use Rattle.rules.proofs.Views.{eqb-self, seen, atFirst, shifted, atPlace}
-use Rattle.rules.specs.Lists.{keepIf, onlyIf}
+use Rattle.listlaws.specs.Lists.{keepIf, onlyIf}
 use Rattle.rules.specs.Messages.{Message, of}
 use Rattle.rules.specs.Plain.{askers, staysFresh, rest, pickedIn, askingRow}
 use Rattle.rules.specs.StationLimits.{Condition, Free, Fresh, Asked, Resolving, Urgent, Long}

@@ -14,7 +14,7 @@ use Rattle.rules.proofs.Relation.{Agrees, askedOf}
 use Rattle.rules.proofs.Shared.{gather, askedSender, askedRow}
 use Rattle.rules.proofs.Views.{Sender, senderAt, requestFrom, seen, atFirst, atPlace}
 use Rattle.rules.specs.Calls.{Start, index}
-use Rattle.rules.specs.Lists.{keepIf, onlyIf}
+use Rattle.listlaws.specs.Lists.{keepIf, onlyIf}
 use Rattle.rules.specs.Messages.{Message, ofBy, of}
 use Rattle.rules.specs.Plain.{Plain, plainWeight}
 use Rattle.rules.specs.StationLimits.{Condition, Free, Fresh, Asked, Resolving, Urgent, Long}

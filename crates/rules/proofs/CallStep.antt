@@ -9,7 +9,7 @@ use native.Mathlib.Omega.{arith}
 use lib.Dec.{leb, eqb}
 use lib.ListN.{length, getD, length-append}
 use Rattle.rules.proofs.QueueViews.{length-segments}
-use Rattle.rules.proofs.Landing.{ofBy-append}
+use Rattle.rules.proofs.Newcomers.{ofBy-append}
 use Rattle.rules.proofs.SlotStep.{and-both, slot-same, slot-answer, settled-eq, passes-eq, length-asking}
 use Rattle.message.specs.Message.{fitsMessage, slotsFor, ceiling}
 use Rattle.rules.proofs.Relation.{Agrees, Numbered, Same, SameResult, Fits, remaining, whole}

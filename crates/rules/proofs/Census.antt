@@ -8,11 +8,12 @@ use native.Mathlib.Omega.{arith}
 use native.Mathlib.Decide.{decLt}
 use mathlib.Core.Logic.{by-cases, _≢_}
 use lib.ListN.{length}
-use Rattle.rules.proofs.Landing.{ofBy-append}
+use Rattle.rules.proofs.Newcomers.{ofBy-append}
 use Rattle.rules.proofs.Clauses.{hearing}
 use Rattle.rules.proofs.Shared.{collect, gather}
 use Rattle.rules.proofs.Views.{Sender, eqb-self}
-use Rattle.rules.specs.Lists.{keepIf, onlyIf}
+use Rattle.listlaws.specs.Lists.{keepIf, onlyIf}
+use Rattle.listlaws.proofs.Totals.{total, total-cong}
 use Rattle.rules.specs.Messages.{ofBy}
 use borrow.Author.Tests.{eqb-true, ne-eqb, eqb-false}
 use lib.Dec.{eqb}
@@ -49,19 +50,6 @@ hearing-eq index (x ∷ []) (y ∷ z ∷ b) h = absurd (lone-crowd x y z b h)
 hearing-eq index (x ∷ y ∷ a) [] h = absurd (nil-cons (sym (h (x .position)) ∙ own-first x (y ∷ a)))
 hearing-eq index (x ∷ y ∷ a) (z ∷ []) h = absurd (lone-crowd z x y a (λ k. sym (h k)))
 hearing-eq index (x ∷ y ∷ a) (z ∷ w ∷ b) h = refl
-
--- sums over the stations below K
-abbrev pub total : ℕ → (ℕ → ℕ) → ℕ
-total zero f = 0
-total (suc k) f = f k + total k f
-
-pub total-cong : (K : ℕ) (f g : ℕ → ℕ) → ((k : ℕ) → f k ≡ g k) → total K f ≡ total K g
-total-cong zero f g h = refl
-total-cong (suc k) f g h = rw (h k, total-cong k f g h)
-
-pub total-add : (K : ℕ) (f g : ℕ → ℕ) → total K (λ k. f k + g k) ≡ total K f + total K g
-total-add zero f g = omega arith
-total-add (suc K) f g = omega (arith, total-add K f g)
 
 abbrev bump : Bool → ℕ → ℕ
 bump true n = suc n

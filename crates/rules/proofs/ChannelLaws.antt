@@ -20,11 +20,9 @@ use Rattle.minislot.specs.Row.{readings, firstNumber, feedbacks}
 use Rattle.minislot.specs.Together.{Request, carries, silent, together}
 use Rattle.rules.specs.declared.Counters.{Counters}
 use Rattle.rules.specs.declared.Station.{Station}
-use Rattle.rules.specs.declared.StationSlot.{StationSlot}
-use Rattle.rules.specs.declared.SlotAnswer.the-variants.{Went as WentSlot}
-use Rattle.rules.specs.declared.Row.{Row}
+use Rattle.rules.specs.declared.WireRow.{WireRow}
 use Rattle.rules.specs.declared.Places.{Places}
-use Rattle.rules.specs.Lists.{each, onlyIf, gatherOf}
+use Rattle.listlaws.specs.Lists.{each, onlyIf, gatherOf}
 use Rattle.rules.specs.Limits.{between, withinLimits}
 use Rattle.rules.specs.Hearing.{wordsOf, countsOf}
 use Rattle.rules.specs.Queueing.{placesOf, placesAfter, immediateOf, passes}
@@ -32,22 +30,23 @@ use Rattle.rules.specs.Turns.{Turn, turnOf}
 use Rattle.rules.specs.Listening.{hasRow}
 use Rattle.rules.specs.StationLimits.{Condition, Free, Fresh, Asked, Resolving, Urgent, Long, conditionWithin, stationWithin, isTotal}
 use Rattle.rules.specs.OwnHearing.{ownMinislot, ownTotal, hearsFrom, hearsItself}
-use Rattle.rules.specs.StationCalls.{noStation, requestMinislot, requesting, segmentSent, stationAfter, slotOf}
+use Rattle.rules.specs.StationCalls.{noStation, slotOf}
 use Rattle.rules.specs.Soundness.{tableCounters, askedRequests, askedMinislot, soundTable}
 use Rattle.rules.specs.SoundMeaning.{stationAt, Sound}
 use Rattle.rules.specs.ChannelCalls.{Channel, blankRow, heardRow, slotsOf}
+use Rattle.rules.specs.Outcome.{outcomeOf}
+use Rattle.rules.specs.Stepping.{stepOf}
 use Rattle.rules.specs.Calls.{Start, index}
 use Rattle.rules.proofs.Views.{Sender, senderAt, eqb-self}
 use Rattle.rules.proofs.Shared.{Table, collect, gather, askedSender, askedRow}
 use Rattle.rules.proofs.SlotStep.{and-both}
 use Rattle.rules.proofs.WireRows.{asRequest, leaves, minislotRow, length-row, take-row, row-at, AsksOnce, Indexes, feedbackRow, row-reads, heard-number, heard-feedbacks}
 use Rattle.rules.proofs.OwnHears.{hears-row}
-use Rattle.rules.proofs.Walking.{IsStation, AreStations, slot-passes}
+use Rattle.rules.proofs.Walking.{IsStation, AreStations, slot-steps}
 use Rattle.rules.proofs.Embody.{feedback-is}
 use Rattle.rules.proofs.SoundKept.{asked-are}
 use Rattle.rules.proofs.SoundMeans.{sound-says}
-use Rattle.rules.proofs.LimitLaws.{Within, within-limits, arrays-lengths, between-bounds}
-use Rattle.rules.proofs.StationLaws.{station-within}
+use Rattle.rules.proofs.LimitLaws.{Within, within-limits, arrays-lengths, between-bounds, station-in}
 
 -- a condition within its limits asks nothing, or once with a total of 1 or more
 asks-once-within : (c : Counters) (g j k : ℕ) (x : Condition) → conditionWithin c x ≡ true → AsksOnce k (askedSender g j k x)
@@ -100,13 +99,13 @@ past-end [] k h = refl
 past-end (s ∷ l) zero h = absurd (omega arith)
 past-end (s ∷ l) (suc k) h = past-end l k (omega arith)
 
-module _ (stations : List Station) (wire : List Row) (some : 1 ≤ length stations) (sound : soundTable stations wire ≡ true) where
+module _ (stations : List Station) (wire : List WireRow) (some : 1 ≤ length stations) (sound : soundTable stations wire ≡ true) where
   says : Sound stations wire
   says = sound-says stations wire sound
 
   -- the counters that all share, and their limits
   pub first-within : withinLimits (tableCounters stations) ≡ true
-  first-within = station-within (stationAt stations 0) (says .within 0 some) .counters
+  first-within = station-in (stationAt stations 0) (says .within 0 some) .counters
 
   pub limits : Within (tableCounters stations)
   limits = within-limits (tableCounters stations) first-within
@@ -152,14 +151,14 @@ module _ (stations : List Station) (wire : List Row) (some : 1 ≤ length statio
   indexes : Indexes (index (startMade stations)) (length stations)
   indexes =
       record {
-        below = λ k h. rw (index-map stations k) (let w = station-within (stationAt stations k) (says .within k h) .index in omega arith);
+        below = λ k h. rw (index-map stations k) (let w = station-in (stationAt stations k) (says .within k h) .index in omega arith);
         distinct = λ i k a b e. says .distinct i k a b (sym (index-map stations i) ∙ e ∙ index-map stations k);
       }
 
   once : (g j k : ℕ) → AsksOnce k (askedSender g j k (getD stations k noStation .condition))
   once g j k =
       by-cases (decLt k (length stations))
-      (λ h. asks-once-within (stationAt stations k .counters) g j k (stationAt stations k .condition) (station-within (stationAt stations k) (says .within k h) .condition))
+      (λ h. asks-once-within (stationAt stations k .counters) g j k (stationAt stations k .condition) (station-in (stationAt stations k) (says .within k h) .condition))
       (λ h. rw (past-end stations k (omega arith)) (inl refl))
 
   outside : (k : ℕ) → length stations ≤ k → getD stations k noStation .condition ≡ Free
@@ -242,14 +241,12 @@ module _ (stations : List Station) (wire : List Row) (some : 1 ≤ length statio
   module _ (fits : passes (placesAfter (tableCounters stations) rowHere) ≡ false) where
     pub station-goes : (k : ℕ) → k < length stations → (pick : ℕ) → between 1 pick (tableCounters stations .minislots) ≡ true
         → slotOf (stationAt stations k) (wordsOf (heardRow ch)) (countsOf (heardRow ch)) pick
-        ≡ record {
-          answer = WentSlot (turnOf (placesAfter (stationAt stations k .counters) rowHere)) (requestMinislot (requesting (stationAt stations k) rowHere) pick) (segmentSent (stationAt stations k) rowHere);
-          station = stationAfter (stationAt stations k) rowHere pick;
-        }
+        ≡ stepOf (outcomeOf (tableCounters stations) rowHere) (stationAt stations k) pick
     station-goes k h pick w =
-        slot-passes (stationAt stations k) (wordsOf (heardRow ch)) (countsOf (heardRow ch)) rowHere pick (each-within k h)
+        slot-steps (stationAt stations k) (wordsOf (heardRow ch)) (countsOf (heardRow ch)) rowHere pick (each-within k h)
         (rw (counters-shared k h, length-map (heardRow ch) (λ (x : Minislot). x .word), length-map (heardRow ch) (λ (x : Minislot). x .count), row-length, eqb-self (tableCounters stations .minislots)))
         (rw (counters-shared k h) w)
         row-number refl
         (rw (counters-shared k h) fits)
         (hears k h)
+        ∙ ap (λ (c : Counters). stepOf (outcomeOf c rowHere) (stationAt stations k) pick) (counters-shared k h)

@@ -4,7 +4,6 @@ use mathlib.Core.Bool.{Bool, true, false, cond}
 use mathlib.Core.List.{List, [], _∷_}
 use Prim.Native.Nat.{ℕ, zero, suc, _-_, _≤_}
 use native.Mathlib.Omega.{arith}
-use native.Mathlib.Numerals.{add-one}
 use lib.Dec.{ltb, eqb}
 use lib.ListN.{getD, take}
 use borrow.Author.Tests.{lt-ltb, ne-eqb}
@@ -15,19 +14,19 @@ use Rattle.rules.specs.Queueing.{queued, queuedRow}
 use Rattle.rules.specs.Turns.{Turn, UrgentTurn, LongTurn, ResolveTurn, OpenTurn, turnOf}
 use Rattle.rules.specs.Falling.{urgentFalls, longFalls}
 use Rattle.rules.specs.StationLimits.{Condition, Free, Fresh, Asked, Resolving, Urgent, Long}
-use Rattle.rules.specs.Settling.{standsAfter, settledBy}
 use Rattle.rules.specs.Requesting.{requests, requested}
 use Rattle.rules.specs.Serving.{sends, moved}
 use Rattle.rules.proofs.Clauses.{after, settle, front, asks, lower, shorter, falls, sendsBy, less, nLeft}
+use Rattle.rules.proofs.Settled.{standsAfter, settledBy}
 
--- a place, a minislot and a stretch count from 1
+-- a place, a minislot and a stretch count from 1, and a stretch has no more left than its total
 abbrev pub Placed : Condition → Type 0
 Placed Free = Unit {0}
 Placed (Fresh t) = Unit {0}
 Placed (Asked g j t) = 1 ≤ j
 Placed (Resolving g i t) = 1 ≤ i
 Placed (Urgent i) = 1 ≤ i
-Placed (Long f l t) = (1 ≤ f) × (1 ≤ l)
+Placed (Long f l t) = (1 ≤ f) × (1 ≤ l) × (l ≤ t)
 
 abbrev places : ℕ → ℕ → ℕ → Places
 places h n r = record { urgent = h; long = n; resolution = r }
@@ -114,9 +113,9 @@ asks-is (suc r) g pick (Long f l t) w = refl
 
 -- ---- step 4
 
-pub sends-is : (g h n r : ℕ) (c : Condition) → sends (turnOf (places h n r)) r g c ≡ sendsBy h n r c
+pub sends-is : (g h n r : ℕ) (c : Condition) → Placed c → sends (turnOf (places h n r)) r g c ≡ sendsBy h n r c
 unfolding sends requests
-sends-is g h n r c = go h n r c
+sends-is g h n r c w = go h n r c w
   where
     open-is : (c : Condition) → sends OpenTurn 0 g c ≡ sendsBy 0 0 0 c
     open-is Free = refl
@@ -134,13 +133,13 @@ sends-is g h n r c = go h n r c
     resolve-is r (Urgent i) = refl
     resolve-is r (Long f l t) = refl
 
-    long-is : (n r : ℕ) (c : Condition) → sends LongTurn r g c ≡ sendsBy 0 (suc n) r c
-    long-is n r Free = refl
-    long-is n r (Fresh t) = refl
-    long-is n r (Asked x j t) = refl
-    long-is n r (Resolving x i t) = refl
-    long-is n r (Urgent i) = refl
-    long-is n r (Long f l t) = ap (λ (x : ℕ). cond (eqb f 1) x 0) (add-one (t - l))
+    long-is : (n r : ℕ) (c : Condition) → Placed c → sends LongTurn r g c ≡ sendsBy 0 (suc n) r c
+    long-is n r Free w = refl
+    long-is n r (Fresh t) w = refl
+    long-is n r (Asked x j t) w = refl
+    long-is n r (Resolving x i t) w = refl
+    long-is n r (Urgent i) w = refl
+    long-is n r (Long f l t) (lo, some, most) = ap (λ (x : ℕ). cond (eqb f 1) x 0) (let e : t - (l - 1) ≡ suc (t - l) = omega arith in e)
 
     urgent-is : (h n r : ℕ) (c : Condition) → sends UrgentTurn r g c ≡ sendsBy (suc h) n r c
     urgent-is h n r Free = refl
@@ -150,11 +149,11 @@ sends-is g h n r c = go h n r c
     urgent-is h n r (Urgent i) = refl
     urgent-is h n r (Long f l t) = refl
 
-    go : (h n r : ℕ) (c : Condition) → sends (turnOf (places h n r)) r g c ≡ sendsBy h n r c
-    go (suc h) n r c = rw (turn-urgent h n r) (urgent-is h n r c)
-    go zero (suc n) r c = rw (turn-long n r) (long-is n r c)
-    go zero zero (suc r) c = rw (turn-resolve r) (resolve-is r c)
-    go zero zero zero c = rw turn-open (open-is c)
+    go : (h n r : ℕ) (c : Condition) → Placed c → sends (turnOf (places h n r)) r g c ≡ sendsBy h n r c
+    go (suc h) n r c w = rw (turn-urgent h n r) (urgent-is h n r c)
+    go zero (suc n) r c w = rw (turn-long n r) (long-is n r c w)
+    go zero zero (suc r) c w = rw (turn-resolve r) (resolve-is r c)
+    go zero zero zero c w = rw turn-open (open-is c)
 
 -- ---- steps 4 and 5
 

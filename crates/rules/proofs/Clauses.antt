@@ -7,12 +7,12 @@ use lib.Dec.{eqb}
 use Rattle.minislot.specs.declared.Feedback.{Feedback}
 use Rattle.minislot.specs.declared.Feedback.the-variants.{Empty, Single, Collide}
 use Rattle.rules.specs.declared.Places.{Places}
-use Rattle.rules.specs.Lists.{onlyIf}
+use Rattle.listlaws.specs.Lists.{onlyIf}
 use Rattle.rules.specs.Messages.{Message}
 use Rattle.rules.specs.Queueing.{queued}
 use Rattle.rules.specs.StationLimits.{Condition, Free, Fresh, Asked, Resolving, Urgent, Long}
-use Rattle.rules.specs.Settling.{standsAfter}
 use Rattle.rules.proofs.Views.{Sender, senderAt, requestFrom}
+use Rattle.rules.proofs.Settled.{standsAfter}
 
 -- what is read of these senders; `index` is the table's
 abbrev pub hearing : (ℕ → ℕ) → List Sender → Feedback

@@ -5,14 +5,15 @@ use mathlib.Core.List.{List, [], _∷_, map}
 use Prim.Native.Nat.{ℕ, zero, suc, _-_, _≤_}
 use native.Mathlib.Omega.{arith}
 use lib.ListN.{length}
-use Rattle.rules.proofs.Census.{hearing-eq, gather-of, length-total, length-gather, total-cong}
+use Rattle.listlaws.proofs.Totals.{total-cong}
+use Rattle.rules.proofs.Census.{hearing-eq, gather-of, length-total, length-gather}
 use Rattle.rules.proofs.AskedRows.{onlyIf-nil, keepIf-onlyIf}
 use Rattle.rules.proofs.Clauses.{hearing, sendsBy}
 use Rattle.rules.proofs.Relation.{Fits, freshOf, urgentOf, longOf}
 use Rattle.rules.proofs.Shared.{gather, senderIf}
 use Rattle.rules.proofs.Views.{Sender, senderAt, dataFrom, seen}
 use Rattle.rules.specs.Calls.{Start}
-use Rattle.rules.specs.Lists.{keepIf, onlyIf}
+use Rattle.listlaws.specs.Lists.{keepIf, onlyIf}
 use Rattle.rules.specs.Messages.{Message, Segment, segment, ofBy, of}
 use Rattle.rules.specs.Plain.{sent, oneSlot}
 use Rattle.rules.specs.Positions.{one, part}

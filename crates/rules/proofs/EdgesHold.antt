@@ -9,16 +9,16 @@ use Rattle.minislot.specs.Row.{readings, firstNumber, feedbacks, weight}
 use Rattle.minislot.proofs.Readings.{reads-1}
 use Rattle.message.specs.Message.{fitsMessage, ceiling, slotsFor, slotTotalOf}
 use Rattle.rules.specs.Limits.{groupsWithin, withinLimits}
-use Rattle.rules.specs.Queueing.{queuedRow, passes, immediateOf, placesAfter}
+use Rattle.rules.specs.Queueing.{queuedRow, passes, immediateOf, placesAfter, stepOneOf}
 use Rattle.rules.specs.Turns.{turnOf}
 use Rattle.rules.specs.Falling.{fallen}
-use Rattle.rules.specs.Listening.{listenOf, listenTo, listeningOf}
+use Rattle.rules.specs.Listening.{listened, heardNumberOf, listenOf, listenNumberOf, listeningOf}
 use Rattle.rules.specs.Edges.{Edges}
 
 pub edges : Edges
 unfolding ones onesIn those sixOnes patterns placeOf indexOf readingOf readings firstNumber feedbacks weight
-    fitsMessage ceiling slotsFor slotTotalOf groupsWithin withinLimits queuedRow passes immediateOf placesAfter turnOf fallen
-    listenOf listenTo listeningOf
+    fitsMessage ceiling slotsFor slotTotalOf groupsWithin withinLimits queuedRow passes immediateOf placesAfter stepOneOf turnOf fallen
+    listened heardNumberOf listenOf listenNumberOf listeningOf
 edges =
     record {
       word-62-1 = refl;

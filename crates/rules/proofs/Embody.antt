@@ -12,7 +12,7 @@ use lib.ListN.{length, getD, set, length-map}
 use borrow.Author.Tests.{lt-ltb, le-ltb, ltb-true, ltb-false}
 use Rattle.minislot.specs.declared.Feedback.{Feedback}
 use Rattle.rules.specs.declared.Station.{Station}
-use Rattle.rules.specs.Lists.{each, onlyIf}
+use Rattle.listlaws.specs.Lists.{each, onlyIf}
 use Rattle.rules.specs.Limits.{between}
 use Rattle.rules.specs.StationLimits.{Condition, Free, Fresh, Asked, Resolving, Urgent, Long}
 use Rattle.rules.specs.StationCalls.{noStation}
@@ -59,7 +59,7 @@ fits-placed S m (Fresh t) f = tt
 fits-placed S m (Asked g j t) f = f .3
 fits-placed S m (Resolving g i t) f = f .3
 fits-placed S m (Urgent i) f = f .1
-fits-placed S m (Long x l t) f = (f .1, f .2)
+fits-placed S m (Long x l t) f = (f .1, f .2, f .3)
 
 -- a station asks nothing or once
 pub asks-once : (S : Start) (p : Plain) (k : ℕ) (m : Message) (g j : ℕ) (c : Condition) → Agrees S p k m c → AsksOnce k (askedSender g j k c)

@@ -18,20 +18,21 @@ use Rattle.minislot.specs.declared.Reading.the-variants.{Heard}
 use Rattle.minislot.specs.Row.{readings, firstNumber, feedbacks}
 use Rattle.rules.specs.declared.Station.{Station}
 use Rattle.rules.specs.declared.StationSlot.{StationSlot}
-use Rattle.rules.specs.declared.Row.{Row}
-use Rattle.rules.specs.declared.OfferAnswer.the-variants.{Taken as TakenOffer}
-use Rattle.rules.specs.Lists.{each}
+use Rattle.rules.specs.declared.WireRow.{WireRow}
+use Rattle.listlaws.specs.Lists.{each}
 use Rattle.rules.specs.Limits.{between}
 use Rattle.rules.specs.Hearing.{wordsOf, countsOf}
-use Rattle.rules.specs.Queueing.{placesAfter, passes}
+use Rattle.rules.specs.Queueing.{placesAfter, passes, stepOneOf}
 use Rattle.rules.specs.Turns.{turnOf}
 use Rattle.rules.specs.StationLimits.{Condition, Free, Fresh, stationWithin}
 use Rattle.rules.specs.OwnHearing.{hearsItself}
-use Rattle.rules.specs.StationCalls.{isFree, withCondition, noStation, refusedOffer, offerOf}
+use Rattle.rules.specs.Refusing.{unless, byNumber}
+use Rattle.rules.specs.StationCalls.{isFree, withCondition, noStation, takingNumberOf}
 use Rattle.rules.specs.Soundness.{tableCounters, recordsWithin, soundTable}
-use Rattle.rules.specs.ChannelCalls.{Channel, blankRow, hasStations, refused, positionOf, offeredAt, channelOfferOf, heardRow, slotsOf, newRow, dataSent, loneIndex, loneSegment, successes, deliveredNow, slotAnswer, slotThrough, slotHeard, channelSlotOf, channelCall}
+use Rattle.rules.specs.ChannelCalls.{Channel, ChannelResult, blankRow, hasStations, refused, positionOf, stationOf, takenAt, channelOfferNumberOf, channelOfferOf, heardRow, feedbackHeard, slotsOf, slotsHeard, outcomeHeard, newRow, dataSent, sentOf, loneIndex, loneSegment, deliveredNow, slotAnswer, slotThrough, channelSlotNumberOf, channelSlotOf, channelCall}
 use Rattle.rules.specs.Calls.{Start, index, Call, Offer, Slot, Refused, Taken}
 use Rattle.rules.specs.Plain.{Plain, plainSettled, stationFrom, inRange}
+use Rattle.rules.proofs.QueueingLaws.{fits-cond}
 use Rattle.rules.proofs.Views.{Sender, eqb-self}
 use Rattle.rules.proofs.Clauses.{asks, serves, requestSender}
 use Rattle.rules.proofs.Shared.{Table, gather, askedSender, senderIf, tableRefuse, tableAccept, tableOffer, tableRow, tablePlaces, tableSuccess, tableWent, tableSends, tableAnswer, tableSlot, tableSettled, tableCall, tableCondition}
@@ -44,10 +45,11 @@ use Rattle.rules.proofs.WireRows.{AsksOnce, minislotRow, length-row, ta
 use Rattle.rules.proofs.OwnHears.{hears-row}
 use Rattle.rules.proofs.Walking.{IsStation, AreStations, get-set, tableQueued, tableSettledBy, queued-is, success-is, slot-passes}
 use Rattle.rules.proofs.EmbodySlot.{asData, Through, AllThrough, walk-are, data-are, row-are}
-use Rattle.rules.proofs.WalkLaws.{slots-length}
+use Rattle.rules.proofs.Gathering.{slots-length}
 use Rattle.rules.proofs.SoundTests.{sound-tests}
 use Rattle.rules.proofs.SoundMeans.{all-at}
 use Rattle.rules.proofs.Embody.{Embodies, Embodied, GoodStart, fits-placed, asks-once, set-self, positionIn, position-map, position-eq, picks-same, lone-index-is, lone-segment-is, one-served, both, names-are, feedback-is, station-at, same-length}
+use Rattle.rules.specs.Outcome.{successes, outcomeBy, outcomeOf}
 
 module _ (S : Start) (G : GoodStart S) (p : Plain) (t : Table) (R : Same S p t) (ch : Channel) (E : Embodies S t ch) (sound : soundTable (ch .stations) (ch .wire) ≡ true) where
   K : ℕ
@@ -85,7 +87,7 @@ module _ (S : Start) (G : GoodStart S) (p : Plain) (t : Table) (R : Same S p t) 
   heard-row =
       ap (λ (n : ℕ). take n (getD (ch .wire) (tableCounters (ch .stations) .next - 1) blankRow .minislots)) (is-first .minislots)
       ∙ ap (λ (g : ℕ). take (S .m) (getD (ch .wire) (g - 1) blankRow .minislots)) (is-first .next)
-      ∙ ap (λ (r : Row). take (S .m) (r .minislots)) (E .wire (t .next) gl gh)
+      ∙ ap (λ (r : WireRow). take (S .m) (r .minislots)) (E .wire (t .next) gl gh)
       ∙ take-row (index S) (length (S .indexes)) (λ j k. askedSender (t .next) j k (t .condition k)) (S .m) 8 1 (G .m-high)
 
   row-read : readings (wordsOf wireRow) (countsOf wireRow) ≡ map Heard (tableRow S t)
@@ -208,7 +210,8 @@ module _ (S : Start) (G : GoodStart S) (p : Plain) (t : Table) (R : Same S p t) 
           ∙ rw (settled-eq S p t R, turn-eq (plainSettled p .urgent) (plainSettled p .long) (plainSettled p .resolution))
           (one-served (plainSettled p .urgent) (plainSettled p .long) (plainSettled p .resolution) (p .fresh))
 
-      answer-is : slotAnswer (tableCounters (ch .stations)) (tableRow S t) results ≡ tableAnswer S t (tableRow S t) (tableSuccess t (tableRow S t)) (tableSettled S t)
+      answer-is : slotAnswer (outcomeOf (tableCounters (ch .stations)) (tableRow S t)) (sentOf results) ≡ tableAnswer S t (tableRow S t) (tableSuccess t (tableRow S t)) (tableSettled S t)
+      unfolding outcomeBy stepOneOf
       answer-is =
           went-cong (ap turnOf queued) count-senders (ap loneIndex data-senders ∙ lone-index-is (index S) senders) (ap loneSegment data-senders ∙ lone-segment-is (index S) senders)
           (rw (success-is S t gl gh (tableRow S t) 0 (getD (ch .stations) 0 noStation) is-first, queued, count-senders) (ap (λ (n : ℕ). successes (tableSuccess t (tableRow S t)) (tableRow S t) + n) delivered))
@@ -216,7 +219,8 @@ module _ (S : Start) (G : GoodStart S) (p : Plain) (t : Table) (R : Same S p t) 
           queued : placesAfter (tableCounters (ch .stations)) (tableRow S t) ≡ tableSettled S t
           queued = queued-is S t gl gh (tableRow S t) 0 (getD (ch .stations) 0 noStation) is-first
 
-      slot-embodied : Embodied S (tableSlot S pick t (tableRow S t) (tableSuccess t (tableRow S t)) (tableSettled S t)) (slotThrough ch (tableCounters (ch .stations)) (tableRow S t) results)
+      slot-embodied : Embodied S (tableSlot S pick t (tableRow S t) (tableSuccess t (tableRow S t)) (tableSettled S t)) (slotThrough ch (outcomeOf (tableCounters (ch .stations)) (tableRow S t)) results)
+      unfolding outcomeBy
       slot-embodied =
           record {
             state = record { stations = after-are; indexes = after-names; wire = after-wire; groups = length-set (ch .wire) (tableCounters (ch .stations) .next - 1) _ ∙ E .groups };
@@ -228,10 +232,40 @@ module _ (S : Start) (G : GoodStart S) (p : Plain) (t : Table) (R : Same S p t) 
   stay-put : (n : ℕ) → Embodied S (tableRefuse t n) (refused ch n)
   stay-put n = record { state = E; answer = refl }
 
-  slot-call : (picks : List ℕ) → Embodied S (tableCall S t (Slot picks)) (channelSlotOf ch picks)
-  unfolding channelSlotOf
-  slot-call picks =
+  -- a slot whose row is this one: 7, or what goes through
+  abbrev heardBy : List Minislot → List ℕ → ChannelResult
+  heardBy w picks =
+      let row = feedbacks (readings (wordsOf w) (countsOf w)) in
+      cond (passes (placesAfter (tableCounters (ch .stations)) row)) (refused ch 7)
+      (slotThrough ch (outcomeOf (tableCounters (ch .stations)) row) (slotsOf (wordsOf w) (countsOf w) (ch .stations) picks))
+
+  -- the channel's tests, one after the other
+  in-order : (picks : List ℕ)
+      → channelSlotOf ch picks
+      ≡ cond (eqb (length picks) (length (ch .stations)))
+      (cond (each (λ (pick : ℕ). between 1 pick (tableCounters (ch .stations) .minislots)) picks) (heardBy (heardRow ch) picks) (refused ch 11))
+      (refused ch 17)
+  unfolding channelSlotOf channelSlotNumberOf
+  in-order picks =
       rw (here, sound)
+      (go (eqb (length picks) (length (ch .stations))) (each (λ (pick : ℕ). between 1 pick (tableCounters (ch .stations) .minislots)) picks)
+      (stepOneOf (tableCounters (ch .stations)) (feedbackHeard ch) .fits) (slotThrough ch (outcomeHeard ch) (slotsHeard ch picks))
+      ∙ ap (λ (r : ChannelResult).
+      cond (eqb (length picks) (length (ch .stations)))
+      (cond (each (λ (pick : ℕ). between 1 pick (tableCounters (ch .stations) .minislots)) picks) r (refused ch 11))
+      (refused ch 17))
+      (fits-cond (tableCounters (ch .stations)) (feedbackHeard ch) _ _))
+    where
+      go : (a b c : Bool) (x : ChannelResult)
+          → byNumber (unless a 17 (unless b 11 (unless c 7 0))) (refused ch) x ≡ cond a (cond b (cond c x (refused ch 7)) (refused ch 11)) (refused ch 17)
+      go true true true x = refl
+      go true true false x = refl
+      go true false c x = refl
+      go false b c x = refl
+
+  slot-call : (picks : List ℕ) → Embodied S (tableCall S t (Slot picks)) (channelSlotOf ch picks)
+  slot-call picks =
+      subst (Embodied S (tableCall S t (Slot picks))) (sym (in-order picks))
       (both S (eqb (length picks) (length (S .indexes))) (eqb (length picks) (length (ch .stations))) _ _ _ _ (ap (eqb (length picks)) (sym (same-length S t ch E)))
       (λ a. both S (inRange (S .m) picks) (each (λ (pick : ℕ). between 1 pick (tableCounters (ch .stations) .minislots)) picks) _ _ _ _
       (rw (is-first .minislots) (sym (picks-same (S .m) picks)))
@@ -240,12 +274,12 @@ module _ (S : Start) (G : GoodStart S) (p : Plain) (t : Table) (R : Same S p t) 
       (λ a. stay-put 17))
     where
       goes : (picks : List ℕ) → length picks ≡ length (ch .stations) → inRange (S .m) picks ≡ true
-          → Embodied S (cond (passes (tableSettled S t)) (tableRefuse t 7) (tableSlot S (λ k. getD picks k 1) t (tableRow S t) (tableSuccess t (tableRow S t)) (tableSettled S t))) (slotHeard ch (heardRow ch) picks)
+          → Embodied S (cond (passes (tableSettled S t)) (tableRefuse t 7) (tableSlot S (λ k. getD picks k 1) t (tableRow S t) (tableSuccess t (tableRow S t)) (tableSettled S t))) (heardBy (heardRow ch) picks)
       goes picks el er =
-          subst (λ (w : List Minislot). Embodied S (cond (passes (tableSettled S t)) (tableRefuse t 7) (tableSlot S (λ k. getD picks k 1) t (tableRow S t) (tableSuccess t (tableRow S t)) (tableSettled S t))) (slotHeard ch w picks))
+          subst (λ (w : List Minislot). Embodied S (cond (passes (tableSettled S t)) (tableRefuse t 7) (tableSlot S (λ k. getD picks k 1) t (tableRow S t) (tableSuccess t (tableRow S t)) (tableSettled S t))) (heardBy w picks))
           (sym heard-row)
           (subst (λ (row : List Feedback). Embodied S (cond (passes (tableSettled S t)) (tableRefuse t 7) (tableSlot S (λ k. getD picks k 1) t (tableRow S t) (tableSuccess t (tableRow S t)) (tableSettled S t)))
-          (cond (passes (placesAfter (tableCounters (ch .stations)) row)) (refused ch 7) (slotThrough ch (tableCounters (ch .stations)) row (slotsOf (wordsOf wireRow) (countsOf wireRow) (ch .stations) picks))))
+          (cond (passes (placesAfter (tableCounters (ch .stations)) row)) (refused ch 7) (slotThrough ch (outcomeOf (tableCounters (ch .stations)) row) (slotsOf (wordsOf wireRow) (countsOf wireRow) (ch .stations) picks))))
           (sym row-feedbacks)
           (both S (passes (tableSettled S t)) (passes (placesAfter (tableCounters (ch .stations)) (tableRow S t))) _ _ _ _
           (ap passes (sym (queued-is S t gl gh (tableRow S t) 0 (getD (ch .stations) 0 noStation) is-first)))
@@ -260,11 +294,6 @@ module _ (S : Start) (G : GoodStart S) (p : Plain) (t : Table) (R : Same S p t) 
 
     is-it : IsStation S t k (getD (ch .stations) k noStation)
     is-it = subst (λ (i : ℕ). IsStation S t i (getD (ch .stations) k noStation)) (zero-add k) (station-at S t 0 (ch .stations) (E .stations) k h)
-
-    -- the record put back as it was
-    put-back : (n : ℕ) → Embodied S (tableRefuse t n) (record { state = record { stations = set (ch .stations) k it; wire = ch .wire }; answer = Refused n })
-    put-back n =
-        subst (λ (l : List Station). Embodied S (tableRefuse t n) (record { state = record { stations = l; wire = ch .wire }; answer = Refused n })) (sym (set-self (ch .stations) k noStation h)) (stay-put n)
 
     -- a record with a condition of its own, in the table with a fresh message at k
     accept-is : (v j : ℕ) (s : Station) (c : Condition) → IsStation S t j s → c ≡ cond (eqb j k) (Fresh v) (t .condition j) → IsStation S (tableAccept t k v .state) j (withCondition s c)
@@ -319,24 +348,20 @@ module _ (S : Start) (G : GoodStart S) (p : Plain) (t : Table) (R : Same S p t) 
         go g j i true e = rw (eqb-true i k e, free)
         go g j i false e = refl
 
-    offer-at : (bytes : ℕ) → Embodied S (tableOffer t bytes (some k)) (offeredAt ch k (offerOf it bytes))
-    unfolding offerOf
-    offer-at bytes =
-        rw (all-at stationWithin noStation (ch .stations) within-all k h)
-        (go (isFree (t .condition k)) (isFree (it .condition)) refl (ap isFree (sym (is-it .condition))) (fitsMessage bytes))
+    offer-at : (bytes : ℕ) → Embodied S (tableOffer t bytes (some k)) (byNumber (takingNumberOf (it .condition) bytes) (refused ch) (takenAt ch k bytes))
+    offer-at bytes = go (isFree (t .condition k)) (isFree (it .condition)) refl (ap isFree (sym (is-it .condition))) (fitsMessage bytes)
       where
         go : (b c : Bool) → isFree (t .condition k) ≡ b → isFree (t .condition k) ≡ c → (d : Bool)
             → Embodied S (cond b (cond d (tableAccept t k (slotsFor bytes)) (tableRefuse t 10)) (tableRefuse t 9))
-            (offeredAt ch k
-            (cond c (cond d (record { answer = TakenOffer (slotsFor bytes); station = withCondition it (Fresh (slotsFor bytes)) }) (refusedOffer it 10)) (refusedOffer it 9)))
+            (byNumber (unless c 9 (unless d 10 0)) (refused ch) (takenAt ch k bytes))
         go true true e f true = accepted (slotsFor bytes) (is-free (t .condition k) e)
-        go true true e f false = put-back 10
-        go false false e f d = put-back 9
+        go true true e f false = stay-put 10
+        go false false e f d = stay-put 9
         go true false e f d = absurd (true≢false (sym e ∙ f))
         go false true e f d = absurd (false≢true (sym e ∙ f))
 
   offer-call : (x bytes : ℕ) → Embodied S (tableCall S t (Offer x bytes)) (channelOfferOf ch x bytes)
-  unfolding channelOfferOf
+  unfolding channelOfferOf channelOfferNumberOf
   offer-call x bytes =
       rw (here, sound, found)
       (go (ltb (positionOf x (ch .stations)) (length (ch .stations))) refl)
@@ -352,7 +377,7 @@ module _ (S : Start) (G : GoodStart S) (p : Plain) (t : Table) (R : Same S p t) 
 
       go : (b : Bool) → ltb (positionOf x (ch .stations)) (length (ch .stations)) ≡ b
           → Embodied S (tableOffer t bytes (cond b (some (positionOf x (ch .stations))) none))
-          (cond b (offeredAt ch (positionOf x (ch .stations)) (offerOf (getD (ch .stations) (positionOf x (ch .stations)) noStation) bytes)) (refused ch 16))
+          (byNumber (unless b 16 (takingNumberOf (stationOf ch x .condition) bytes)) (refused ch) (takenAt ch (positionOf x (ch .stations)) bytes))
       go true e = offer-at (positionOf x (ch .stations)) (ltb-true (positionOf x (ch .stations)) (length (ch .stations)) e) bytes
       go false e = stay-put 16
 

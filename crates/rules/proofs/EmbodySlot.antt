@@ -2,7 +2,7 @@
 -- and the data senders are the table's. Assumes nothing.
 use mathlib.Core.Path.{_≡_, refl, sym, ap, subst, _∙_}
 use mathlib.Core.Bool.{Bool, true, false, _&&_}
-use mathlib.Core.List.{List, [], _∷_, map}
+use mathlib.Core.List.{List, [], _∷_, map, map-append}
 use Prim.Native.Nat.{ℕ, zero, suc, _+_, _-_, _≤_, _<_}
 use native.Mathlib.Omega.{arith}
 use lib.Dec.{eqb, ltb}
@@ -11,13 +11,10 @@ use borrow.Author.Tests.{ne-eqb, lt-ltb}
 use Rattle.minislot.specs.declared.Feedback.{Feedback}
 use Rattle.rules.specs.declared.Station.{Station}
 use Rattle.rules.specs.declared.StationSlot.{StationSlot}
-use Rattle.rules.specs.declared.SlotAnswer.the-variants.{Went as WentSlot}
-use Rattle.rules.specs.Lists.{onlyIf}
-use Rattle.rules.specs.Queueing.{placesAfter}
-use Rattle.rules.specs.Turns.{turnOf}
+use Rattle.listlaws.specs.Lists.{onlyIf}
 use Rattle.rules.specs.StationLimits.{Condition, Free, Fresh, Asked, Resolving, Urgent, Long}
 use Rattle.rules.specs.Requesting.{requests, totalOf}
-use Rattle.rules.specs.StationCalls.{requestMinislot, requesting, segmentSent, stationAfter, slotOf}
+use Rattle.rules.specs.StationCalls.{slotOf}
 use Rattle.rules.specs.ChannelCalls.{slotsOf, requestIn, requestsIn, newRow, DataSent, dataIn, dataSent}
 use Rattle.rules.specs.Calls.{Start, index}
 use Rattle.rules.proofs.Views.{Sender, senderAt}
@@ -25,8 +22,9 @@ use Rattle.rules.proofs.Clauses.{asks, falls, front, requestSender}
 use Rattle.rules.proofs.ClauseLaws.{Placed}
 use Rattle.rules.proofs.Shared.{Table, collect, senderIf, tableSuccess, tableWent, tableSends}
 use Rattle.rules.proofs.WireRows.{asRequest, minislotRow}
-use Rattle.rules.proofs.TestLaws.{map-append}
 use Rattle.rules.proofs.Walking.{IsStation, AreStations, tableQueued, tableSettledBy, queued-is, settled-is, sent-is, station-is}
+use Rattle.rules.specs.Stepping.{requestMinislot}
+use Rattle.rules.proofs.Settled.{requesting, stationAfter, wentBy}
 
 -- ---- one station's request and data, by clauses
 
@@ -70,7 +68,7 @@ data-is ix k (suc v) = rw (lt-ltb 0 (suc v) (omega arith))
 -- what is known of each station's slot
 pub record Through (S : Start) (t : Table) (words counts : List ℕ) (heard : List Feedback) (pick : ℕ → ℕ) (k : ℕ) (s : Station) : Type 0 where
   pub slot : slotOf s words counts (pick k)
-      ≡ record { answer = WentSlot (turnOf (placesAfter (s .counters) heard)) (requestMinislot (requesting s heard) (pick k)) (segmentSent s heard); station = stationAfter s heard (pick k) }
+      ≡ wentBy s heard (pick k)
   pub before : Placed (t .condition k)
   pub settled : Placed (tableSettledBy t heard k)
   pub asked : Placed (asks (tableQueued t heard .resolution) (t .next) (pick k) (tableSettledBy t heard k))
@@ -114,7 +112,7 @@ module _ (S : Start) (t : Table) (gl : 1 ≤ t .next) (gh : t .next ≤ 8) (word
         ≡ map (asData (index S)) (senderIf j (tableSends t heard (tableSuccess t heard) (tableQueued t heard) j))
     data-of =
         ap (λ (r : StationSlot). dataIn r (r .answer)) (w .slot)
-        ∙ rw (is .index, sent-is S t gl gh heard j s a (w .before))
+        ∙ rw (is .index, sent-is S t gl gh heard j s a (w .before) (w .settled))
         (data-is (index S) j (tableSends t heard (tableSuccess t heard) (tableQueued t heard) j))
       where
         is : IsStation S (tableWent S pick t heard (tableSuccess t heard) (tableQueued t heard)) j (stationAfter s heard (pick j))

@@ -13,7 +13,7 @@ use Rattle.message.specs.Message.{fitsMessage, slotsFor}
 use Rattle.minislot.specs.Together.{carries, silent, joined, together}
 use Rattle.minislot.proofs.Senders.{joined-comm, joined-assoc, joined-silent}
 use Rattle.rules.specs.declared.Station.{Station}
-use Rattle.rules.specs.Lists.{sumOf, countOf, keepIf}
+use Rattle.listlaws.specs.Lists.{sumOf, countOf, keepIf}
 use Rattle.rules.specs.Turns.{Turn}
 use Rattle.rules.specs.Serving.{waiting}
 use Rattle.rules.specs.Calls.{Start, index, Call, Offer, Slot, Went}
@@ -23,7 +23,7 @@ use Rattle.rules.specs.Demand3.{requestOf, noMessage, isRefusal, takenIn
 use Rattle.rules.proofs.Views.{Sender, requestFrom, dataFrom, seen, eqb-self}
 use Rattle.rules.proofs.Shared.{Table, gather, askedSender}
 use Rattle.rules.proofs.Relation.{lengths, Same, Numbered}
-use Rattle.rules.proofs.Census.{total}
+use Rattle.listlaws.proofs.Totals.{total}
 use Rattle.rules.proofs.SlotStep.{segmentsSent}
 use Rattle.rules.proofs.Mixing.{blend, wire-blend}
 use Rattle.rules.proofs.WireRows.{asRequest, leaves}

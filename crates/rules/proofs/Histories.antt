@@ -7,13 +7,13 @@ use Prim.Native.Nat.{ℕ, zero, suc, _+_, _-_, _≤_, _<_}
 use native.Mathlib.Omega.{arith}
 use lib.ListN.{length, length-append}
 use Rattle.rules.proofs.QueueViews.{length-segments}
-use Rattle.rules.proofs.Landing.{ofBy-append}
+use Rattle.rules.proofs.Newcomers.{ofBy-append}
 use Rattle.rules.proofs.CallStep.{length-rem}
 use Rattle.rules.proofs.Relation.{Fits, Same, Numbered, whole, remaining}
 use Rattle.rules.proofs.Shared.{Table}
 use Rattle.rules.proofs.Views.{eqb-self}
 use Rattle.rules.specs.Calls.{Start}
-use Rattle.rules.specs.Lists.{keepIf, onlyIf}
+use Rattle.listlaws.specs.Lists.{keepIf, onlyIf}
 use Rattle.rules.specs.Messages.{deliveredFor, Message, Segment, of, segmentsFrom, segment, deliveredOf}
 use Rattle.rules.specs.Plain.{Plain}
 use Rattle.rules.specs.Serving.{waiting}

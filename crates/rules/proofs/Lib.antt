@@ -1,14 +1,15 @@
 -- Laws of the rules.
 pub mod QueueingLaws
+pub mod Settled
+pub mod Refusals
 pub mod LimitLaws
-pub mod TestLaws
 -- DEMAND 3, from the lists up
 pub mod Views
 pub mod Clauses
 pub mod Shared
 pub mod Relation
 pub mod QueueViews
-pub mod Landing
+pub mod Newcomers
 pub mod AskViews
 pub mod FallViews
 pub mod SettleViews
@@ -32,7 +33,6 @@ pub mod EmbodySlot
 pub mod Embody
 pub mod SoundTests
 pub mod EmbodyCalls
-pub mod Counting
 pub mod Sounding
 pub mod SoundLists
 pub mod SoundMeans
@@ -42,13 +42,13 @@ pub mod Following
 pub mod Theorem
 pub mod Worked
 pub mod Transmission
-pub mod WalkLaws
+pub mod Gathering
 pub mod StationListens
+pub mod RowReads
 pub mod ListeningLaws
 pub mod ChangesHold
 pub mod EdgesHold
 pub mod StationLaws
-pub mod SoundnessLaws
 pub mod ChannelLaws
 pub mod NeverSeven
 pub mod NumbersHold

@@ -31,23 +31,23 @@ pub record Within (c : Counters) : Type 0 where
 pub within-limits : (c : Counters) → withinLimits c ≡ true → Within c
 unfolding withinLimits
 within-limits c e =
-    let b = between 2 (c .minislots) 8 in
-    let d = between 1 (c .groups) 8 in
-    let f = between 1 (c .next) (c .groups) in
+    let m = between 2 (c .minislots) 8 in
+    let n = between 1 (c .groups) 8 in
+    let g = between 1 (c .next) (c .groups) in
     let u = leb (c .urgent) 4095 in
     let l = leb (c .long) 65535 in
-    let p₅ = and-eq-true-iff (b && d && f && u && l) (groupsWithin c) .0 e in
-    let p₄ = and-eq-true-iff (b && d && f && u) l .0 (p₅ .0) in
-    let p₃ = and-eq-true-iff (b && d && f) u .0 (p₄ .0) in
-    let p₂ = and-eq-true-iff (b && d) f .0 (p₃ .0) in
-    let p₁ = and-eq-true-iff b d .0 (p₂ .0) in
+    let p₅ = and-eq-true-iff (m && n) (g && u && l && groupsWithin c) .0 e in
+    let p₁ = and-eq-true-iff m n .0 (p₅ .0) in
+    let p₄ = and-eq-true-iff (g && u && l) (groupsWithin c) .0 (p₅ .1) in
+    let p₃ = and-eq-true-iff (g && u) l .0 (p₄ .0) in
+    let p₂ = and-eq-true-iff g u .0 (p₃ .0) in
     record {
       minislots = between-bounds 2 (c .minislots) 8 (p₁ .0);
       groups = between-bounds 1 (c .groups) 8 (p₁ .1);
-      next = between-bounds 1 (c .next) (c .groups) (p₂ .1);
-      urgent = leb-true (c .urgent) 4095 (p₃ .1);
-      long = leb-true (c .long) 65535 (p₄ .1);
-      arrays = p₅ .1;
+      next = between-bounds 1 (c .next) (c .groups) (p₂ .0);
+      urgent = leb-true (c .urgent) 4095 (p₂ .1);
+      long = leb-true (c .long) 65535 (p₃ .1);
+      arrays = p₄ .1;
     }
 
 -- the two arrays have a place for each of eight groups

@@ -7,8 +7,9 @@ use Prim.Native.Nat.{ℕ, zero, suc, _+_, _-_, _≤_, _<_}
 use native.Mathlib.Omega.{arith}
 use lib.ListN.{length}
 use Rattle.rules.proofs.QueueViews.{shifted-plus}
-use Rattle.rules.proofs.Landing.{ofBy-append}
-use Rattle.rules.proofs.Census.{total, total-cong, total-add, length-total}
+use Rattle.rules.proofs.Newcomers.{ofBy-append}
+use Rattle.listlaws.proofs.Totals.{total, total-cong, total-add}
+use Rattle.rules.proofs.Census.{length-total}
 use Rattle.rules.proofs.AskedRows.{row-eq}
 use Rattle.rules.proofs.CallStep.{call-same, ledger, length-whole}
 use Rattle.rules.proofs.Searching.{condition-eq}
@@ -17,7 +18,7 @@ use Rattle.rules.proofs.Relation.{Agrees, Same, Fits, whole}
 use Rattle.rules.proofs.Shared.{Table, tableCall, askedRow, tableAfter, tableAnswers}
 use Rattle.rules.proofs.Views.{senderAt, dataFrom, seen, run}
 use Rattle.rules.specs.Calls.{Start, index, Call}
-use Rattle.rules.specs.Lists.{keepIf, onlyIf}
+use Rattle.listlaws.specs.Lists.{keepIf, onlyIf}
 use Rattle.rules.specs.Messages.{Message, Segment, of, segmentsFrom, segment, deliveredOf}
 use Rattle.rules.specs.Plain.{Plain, plainCall, slotSum, plainAfter, plainAnswers}
 use Rattle.rules.specs.Positions.{part, conditionOf}

@@ -14,7 +14,7 @@ use Rattle.rules.proofs.Relation.{Same}
 use Rattle.rules.proofs.Shared.{Table, gather, askedSender}
 use Rattle.rules.proofs.Views.{Sender, requestFrom, eqb-self, seen}
 use Rattle.rules.specs.Calls.{Start}
-use Rattle.rules.specs.Lists.{keepIf, onlyIf}
+use Rattle.listlaws.specs.Lists.{keepIf, onlyIf}
 use Rattle.rules.specs.Messages.{Message, ofBy, of}
 use Rattle.rules.specs.Plain.{Plain}
 use borrow.Author.Tests.{eqb-true, ne-eqb, eqb-false}

@@ -1,44 +1,46 @@
 -- A channel's slot never answers 7. On a sound table each place of a queue is a station's: H is at most the number of stations, N at most 255 slots for each of
 -- them, and each RQ at most half their number (specs/Room). The row heard has at most 8 minislots, and a Single there is one asked station's own total, at most
 -- 255: H grows by at most 8, N by 2,040 and RQ by 8. So with 64 stations H is at most 72 after step 1, N 18,360 and RQ 40. Assumes nothing.
-use mathlib.Core.Path.{_≡_, refl}
-use mathlib.Core.Bool.{Bool, true, false, cond, _&&_}
+use mathlib.Core.Path.{_≡_, refl, ap}
+use mathlib.Core.Bool.{Bool, true, false, cond, _&&_, _||_, true≢false}
 use mathlib.Core.List.{List, [], _∷_}
 use mathlib.Core.Logic.{_≢_}
 use Prim.Native.Nat.{ℕ, zero, suc, _+_, _*_, _≤_, _<_}
 use native.Mathlib.Omega.{arith}
 use lib.Dec.{eqb}
 use lib.ListN.{length, getD, length-append}
-use borrow.Author.Tests.{eqb-true, le-ltb}
+use borrow.Author.Tests.{eqb-true, eqb-false, le-ltb}
 use Rattle.minislot.specs.declared.Feedback.{Feedback}
-use Rattle.minislot.specs.Row.{readings, feedbacks}
 use Rattle.rules.specs.declared.Counters.{Counters}
 use Rattle.rules.specs.declared.Station.{Station}
-use Rattle.rules.specs.declared.Row.{Row}
-use Rattle.rules.specs.Lists.{each, eachPair, sumOf, onlyIf, gatherOf}
+use Rattle.rules.specs.declared.TableMessage.{TableMessage}
+use Rattle.rules.specs.declared.WireRow.{WireRow}
+use Rattle.listlaws.specs.Lists.{each, eachPair, sumOf, onlyIf, gatherOf}
 use Rattle.rules.specs.Limits.{between, urgentLimit, longLimit, resolutionLimit}
-use Rattle.rules.specs.Hearing.{wordsOf, countsOf}
-use Rattle.rules.specs.Queueing.{placesOf, immediateOf, placesAfter, passes}
+use Rattle.rules.specs.Queueing.{placesOf, immediateOf, placesAfter, passes, stepOneOf}
 use Rattle.rules.specs.Changes.{shortSingles, longSlots, collides}
 use Rattle.rules.specs.StationLimits.{Condition, Free, Fresh, Asked, Resolving, Urgent, Long, resolutionAt, conditionWithin, isTotal}
 use Rattle.rules.specs.StationCalls.{noStation}
-use Rattle.rules.specs.Soundness.{tableCounters, differ, urgentPlace, urgentPlaces, urgentSound, Stretch, apart, longStretch, longStretches, longSound, resolvingPlace, resolvingPlaces, soundTable}
+use Rattle.places.specs.declared.Stretch.{Stretch}
+use Rattle.places.specs.Places.{differ, apart}
+use Rattle.rules.specs.Soundness.{messagesOf, tableCounters, urgentPlace, urgentPlaces, urgentSound, longStretch, longStretches, longSound, resolvingPlace, resolvingPlaces, soundTable}
 use Rattle.rules.specs.SoundMeaning.{stationAt}
 use Rattle.rules.specs.Room.{Room}
-use Rattle.rules.specs.ChannelCalls.{Channel, ChannelResult, hasStations, refused, heardRow, slotHeard, channelSlotOf}
+use Rattle.rules.specs.ChannelCalls.{Channel, hasStations, refused, feedbackHeard, slotsHeard, outcomeHeard, slotThrough, channelSlotNumberOf, channelSlotOf}
+use Rattle.rules.specs.Refusing.{unless, byNumber}
+use Rattle.rules.proofs.QueueingLaws.{fits-if}
 use Rattle.rules.specs.Calls.{index, Refused}
 use Rattle.rules.proofs.Views.{Sender, senderAt}
 use Rattle.rules.proofs.Clauses.{hearing}
 use Rattle.rules.proofs.Shared.{collect, gather, askedSender, askedRow}
 use Rattle.rules.proofs.SlotStep.{and-both}
-use Rattle.rules.proofs.TestLaws.{sum-append}
-use Rattle.rules.proofs.LimitLaws.{between-bounds}
+use Rattle.listlaws.proofs.Joining.{sum-append}
+use Rattle.rules.proofs.LimitLaws.{between-bounds, station-in}
 use Rattle.rules.proofs.SoundTests.{sound-tests}
-use Rattle.rules.proofs.Census.{total}
-use Rattle.rules.proofs.Counting.{times, length-places}
+use Rattle.listlaws.proofs.Totals.{total}
+use Rattle.places.proofs.Counting.{times, length-places}
 use Rattle.rules.proofs.SoundLists.{AllWithin, long-parts, resolvings-inside, resolvings-times}
 use Rattle.rules.proofs.SoundMeans.{all-in, sound-says}
-use Rattle.rules.proofs.StationLaws.{station-within}
 use Rattle.rules.proofs.ChangesHold.{added}
 use Rattle.rules.proofs.ChannelLaws.{limits, each-within, startMade, rowHere, row-asked}
 
@@ -78,12 +80,12 @@ left-most c (Resolving g i t) e = omega arith
 left-most c (Urgent i) e = omega arith
 left-most c (Long f l t) e = omega (arith, long-parts c f l t e)
 
-lefts-most : (c : Counters) (l : List Station) → AllWithin c l → sumOf (λ (s : Stretch). s .left) (longStretches l) ≤ 255 * length l
+lefts-most : (c : Counters) (l : List Station) → AllWithin c l → sumOf (λ (s : Stretch). s .left) (longStretches (messagesOf l)) ≤ 255 * length l
 lefts-most c [] w = omega arith
 lefts-most c (s ∷ l) w =
     omega (
       arith,
-      sum-append (λ (s : Stretch). s .left) (record { first = 0; left = 0 }) (longStretch (s .condition)) (longStretches l),
+      sum-append (λ (s : Stretch). s .left) (longStretch (s .condition)) (longStretches (messagesOf l)),
       left-most c (s .condition) (w .0),
       lefts-most c l (w .1),
     )
@@ -121,7 +123,7 @@ collect-most f zero j h = omega arith
 collect-most f (suc n) j h =
     omega (
       arith,
-      sum-append (λ (s : Sender). s .value) (senderAt 0 0) (f j) (collect f n (suc j)),
+      sum-append (λ (s : Sender). s .value) (f j) (collect f n (suc j)),
       length-append (f j) (collect f n (suc j)),
       h j (omega arith),
       collect-most f n (suc j) (λ k w. h k (omega arith)),
@@ -158,49 +160,55 @@ total-twice : (K : ℕ) (f : ℕ → ℕ) → ((i : ℕ) → i < K → 2 ≤ f i
 total-twice zero f h = omega arith
 total-twice (suc K) f h = omega (arith, h K (omega arith), total-twice K f (λ i w. h i (omega arith)))
 
+-- a table has a message for each station
+message-count : (l : List Station) → length (messagesOf l) ≡ length l
+message-count [] = refl
+message-count (s ∷ l) = ap suc (message-count l)
+
 -- A SOUND TABLE'S COUNTERS, by the number of its stations
-pub sound-room : (stations : List Station) (wire : List Row) → soundTable stations wire ≡ true → Room stations
+pub sound-room : (stations : List Station) (wire : List WireRow) → soundTable stations wire ≡ true → Room stations
 unfolding urgentSound longSound
 sound-room stations wire sound =
     let c = tableCounters stations in
     let tests = sound-tests stations wire sound in
     let inside = all-in stations wire sound in
-    let h = eqb-true (length (urgentPlaces stations)) (c .urgent) (and-both _ (eachPair differ (urgentPlaces stations)) (tests .urgent) .0) in
-    let n = eqb-true (sumOf (λ (s : Stretch). s .left) (longStretches stations)) (c .long) (and-both _ (eachPair apart (longStretches stations)) (tests .long) .0) in
+    let h = eqb-true (length (urgentPlaces (messagesOf stations))) (c .urgent) (and-both _ (eachPair differ (urgentPlaces (messagesOf stations))) (tests .urgent) .0) in
+    let n = eqb-true (sumOf (λ (s : Stretch). s .left) (longStretches (messagesOf stations))) (c .long) (and-both _ (eachPair apart (longStretches (messagesOf stations))) (tests .long) .0) in
     record {
-      urgent = omega (arith, gather-most (λ (s : Station). urgentPlace (s .condition)) (λ s. urgent-one (s .condition)) stations);
+      urgent = omega (arith, message-count stations, gather-most (λ (m : TableMessage). urgentPlace (m .condition)) (λ m. urgent-one (m .condition)) (messagesOf stations));
       long = omega (arith, lefts-most c stations inside);
       resolution = λ g lo hi.
           omega (
             arith,
             twice g lo hi,
-            length-places (resolutionAt c g) (resolvingPlaces g stations) (resolvings-inside c g stations inside),
-            gather-most (λ (s : Station). resolvingPlace g (s .condition)) (λ s. resolving-one g (s .condition)) stations,
+            length-places (resolutionAt c g) (resolvingPlaces g (messagesOf stations)) (resolvings-inside c g stations inside),
+            message-count stations,
+            gather-most (λ (m : TableMessage). resolvingPlace g (m .condition)) (λ m. resolving-one g (m .condition)) (messagesOf stations),
           );
     }
   where
-    twice : (g : ℕ) → 1 ≤ g → g ≤ 8 → 2 * resolutionAt (tableCounters stations) g ≤ total (resolutionAt (tableCounters stations) g) (λ i. times (suc i) (resolvingPlaces g stations))
+    twice : (g : ℕ) → 1 ≤ g → g ≤ 8 → 2 * resolutionAt (tableCounters stations) g ≤ total (resolutionAt (tableCounters stations) g) (λ i. times (suc i) (resolvingPlaces g (messagesOf stations)))
     twice g lo hi =
-        total-twice (resolutionAt (tableCounters stations) g) (λ i. times (suc i) (resolvingPlaces g stations))
+        total-twice (resolutionAt (tableCounters stations) g) (λ i. times (suc i) (resolvingPlaces g (messagesOf stations)))
         (λ i h. rw (resolvings-times g (suc i) stations) (sound-says stations wire sound .resolution g (suc i) lo hi (omega arith) (omega arith)))
 
 -- ---- a slot on it
 
 -- the row that the next group's slot hears
-row-few : (stations : List Station) (wire : List Row) (some : 1 ≤ length stations) (sound : soundTable stations wire ≡ true) → AtMost (tableCounters stations .minislots) (rowHere stations wire some sound)
+row-few : (stations : List Station) (wire : List WireRow) (some : 1 ≤ length stations) (sound : soundTable stations wire ≡ true) → AtMost (tableCounters stations .minislots) (rowHere stations wire some sound)
 row-few stations wire some sound =
     rw (row-asked stations wire some sound)
     (row-most (index (startMade stations)) (length stations) (λ k. getD stations k noStation .condition) (tableCounters stations .next)
-    (λ j k h. asked-most (stationAt stations k .counters) (tableCounters stations .next) j k (stationAt stations k .condition) (station-within (stationAt stations k) (each-within stations wire some sound k h) .condition))
+    (λ j k h. asked-most (stationAt stations k .counters) (tableCounters stations .next) j k (stationAt stations k .condition) (station-in (stationAt stations k) (each-within stations wire some sound k h) .condition))
     (tableCounters stations .minislots) 1)
 
 -- NO COUNTER PASSES ITS LIMIT in step 1
 pub never-passes : (ch : Channel) → hasStations (ch .stations) ≡ true → soundTable (ch .stations) (ch .wire) ≡ true
-    → passes (placesAfter (tableCounters (ch .stations)) (feedbacks (readings (wordsOf (heardRow ch)) (countsOf (heardRow ch))))) ≡ false
+    → passes (placesAfter (tableCounters (ch .stations)) (feedbackHeard ch)) ≡ false
 unfolding placesAfter passes
 never-passes ch here sound =
     let c = tableCounters (ch .stations) in
-    let row = feedbacks (readings (wordsOf (heardRow ch)) (countsOf (heardRow ch))) in
+    let row = feedbackHeard ch in
     let (some, few) = between-bounds 1 (length (ch .stations)) 64 here in
     let w = limits (ch .stations) (ch .wire) some sound in
     let room = sound-room (ch .stations) (ch .wire) sound in
@@ -216,22 +224,29 @@ never-passes ch here sound =
     at-most true n = omega arith
     at-most false n = omega arith
 
+-- a slot of this number does not answer 7
+abbrev Other : Channel → List ℕ → ℕ → Type 0
+Other ch picks n = byNumber n (refused ch) (slotThrough ch (outcomeHeard ch) (slotsHeard ch picks)) .answer ≢ Refused 7
+
 -- A CHANNEL'S SLOT NEVER ANSWERS 7
 pub never-7 : (ch : Channel) (picks : List ℕ) → channelSlotOf ch picks .answer ≢ Refused 7
-unfolding channelSlotOf
+unfolding channelSlotOf channelSlotNumberOf
 never-7 ch picks =
-    either (hasStations (ch .stations)) _ _
-    (λ here. either (soundTable (ch .stations) (ch .wire)) _ _
-    (λ sound. either (eqb (length picks) (length (ch .stations))) _ _ (λ _. either (each _ picks) _ _ (λ _. goes here sound) (other 11 (λ e. omega arith))) (other 17 (λ e. omega arith)))
-    (other 18 (λ e. omega arith)))
-    (other 14 (λ e. omega arith))
+    either (hasStations (ch .stations)) 14 _ (λ here. either (soundTable (ch .stations) (ch .wire)) 18 _
+    (λ sound. either (eqb (length picks) (length (ch .stations))) 17 _ (λ _. either (each _ picks) 11 _ (λ _. goes here sound) refl) refl) refl) refl
   where
-    either : (b : Bool) (x y : ChannelResult) → (b ≡ true → x .answer ≢ Refused 7) → y .answer ≢ Refused 7 → cond b x y .answer ≢ Refused 7
-    either true x y h k = h refl
-    either false x y h k = k
+    either : (b : Bool) (n after : ℕ) → (b ≡ true → Other ch picks after) → eqb n 0 || eqb n 7 ≡ false → Other ch picks (unless b n after)
+    either true n after h e = h refl
+    either false n after h e = other n (or-none (eqb n 0) (eqb n 7) e)
+      where
+        or-none : (a b : Bool) → a || b ≡ false → (a ≡ false) × (b ≡ false)
+        or-none false false q = (refl, refl)
+        or-none false true q = (refl, q)
+        or-none true b q = (q, absurd (true≢false q))
 
-    other : (n : ℕ) → n ≢ 7 → refused ch n .answer ≢ Refused 7
-    other n h e = h (cc)
+        other : (n : ℕ) → (eqb n 0 ≡ false) × (eqb n 7 ≡ false) → Other ch picks n
+        other n (z, s) = rw z (λ q. eqb-false n 7 s cc)
 
-    goes : hasStations (ch .stations) ≡ true → soundTable (ch .stations) (ch .wire) ≡ true → slotHeard ch (heardRow ch) picks .answer ≢ Refused 7
-    goes here sound = rw (never-passes ch here sound) (λ e. let z : _≡_ {A = ℕ} 0 1 = cc in omega arith)
+    goes : hasStations (ch .stations) ≡ true → soundTable (ch .stations) (ch .wire) ≡ true
+        → Other ch picks (unless (stepOneOf (tableCounters (ch .stations)) (feedbackHeard ch) .fits) 7 0)
+    goes here sound = rw (fits-if (tableCounters (ch .stations)) (feedbackHeard ch) (never-passes ch here sound)) (λ e. let z : _≡_ {A = ℕ} 0 1 = cc in omega arith)

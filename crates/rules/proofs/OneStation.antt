@@ -4,7 +4,7 @@ use mathlib.Core.Bool.{Bool, true, false, cond}
 use mathlib.Core.List.{List, [], _++_, map, append-assoc}
 use Prim.Native.Nat.{ℕ, zero, _+_, _-_, _≤_}
 use lib.ListN.{length}
-use Rattle.rules.proofs.Landing.{ofBy-append}
+use Rattle.rules.proofs.Newcomers.{ofBy-append}
 use Rattle.rules.proofs.SettleViews.{settle-ok, settle-asked, settle-fresh, settle-asked-far, settle-res-far}
 use Rattle.rules.proofs.AskViews.{Asks, asks-ok}
 use Rattle.rules.proofs.FallViews.{Left, Falls, falls-ok}

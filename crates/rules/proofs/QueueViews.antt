@@ -7,7 +7,7 @@ use native.Mathlib.Omega.{arith}
 use native.Mathlib.Nat.{zero-add, suc-add}
 use lib.ListN.{length}
 use Rattle.rules.proofs.Views.{seen, atFirst, shifted, atPlace, run}
-use Rattle.rules.specs.Lists.{onlyIf}
+use Rattle.listlaws.specs.Lists.{onlyIf}
 use Rattle.rules.specs.Messages.{Message, of, segmentsFrom}
 use Rattle.rules.specs.Positions.{part}
 use borrow.Author.Tests.{ne-eqb}

@@ -1,7 +1,7 @@
--- Step 1's sums only grow, so testing the limits once after the row is testing them at each minislot.
+-- Step 1's sums only grow, so testing the limits once after the row is testing them at each minislot; and what the count of step 1 says.
 -- Assumes nothing.
-use mathlib.Core.Path.{_≡_, refl}
-use mathlib.Core.Bool.{Bool, true, false, _||_}
+use mathlib.Core.Path.{_≡_, refl, sym}
+use mathlib.Core.Bool.{Bool, true, false, not, _||_, cond}
 use mathlib.Core.List.{List, [], _∷_}
 use Prim.Native.Nat.{ℕ, _≤_}
 use native.Mathlib.Omega.{arith}
@@ -9,8 +9,9 @@ use lib.Dec.{ltb, eqb}
 use borrow.Author.Tests.{lt-ltb, ltb-true}
 use Rattle.minislot.specs.declared.Feedback.{Feedback}
 use Rattle.minislot.specs.declared.Feedback.the-variants.{Empty, Single, Collide}
+use Rattle.rules.specs.declared.Counters.{Counters}
 use Rattle.rules.specs.declared.Places.{Places}
-use Rattle.rules.specs.Queueing.{queuedSingle, queued, queuedRow, passes}
+use Rattle.rules.specs.Queueing.{queuedSingle, queued, queuedRow, passes, placesAfter, stepOneOf}
 
 -- every length of p is at most that of r
 pub record Grows (p r : Places) : Type 0 where
@@ -75,3 +76,33 @@ passes-once b p (f ∷ row) e = go (passes-once b (queued b p f) row) (passes (q
         → passes (queuedRow b (queued b p f) row) ≡ x || passesAlong b (queued b p f) row
     go ih true w = passes-grows (queued b p f) (queuedRow b (queued b p f) row) (row-grows b (queued b p f) row) w
     go ih false w = ih w
+
+-- whether step 1 fits is whether no length passes its limit
+pub fits-if : (c : Counters) (row : List Feedback) → passes (placesAfter c row) ≡ false → stepOneOf c row .fits ≡ true
+unfolding stepOneOf
+fits-if c row e = rw e
+
+pub fits-not : (c : Counters) (row : List Feedback) → passes (placesAfter c row) ≡ true → stepOneOf c row .fits ≡ false
+unfolding stepOneOf
+fits-not c row e = rw e
+
+pub fits-says : (c : Counters) (row : List Feedback) → stepOneOf c row .fits ≡ true → passes (placesAfter c row) ≡ false
+unfolding stepOneOf
+fits-says c row e = go (passes (placesAfter c row)) e
+  where
+    go : (b : Bool) → not b ≡ true → b ≡ false
+    go true q = sym q
+    go false q = refl
+
+pub fits-cond {ℓ} : {A : Type ℓ} (c : Counters) (row : List Feedback) (x y : A) → cond (stepOneOf c row .fits) x y ≡ cond (passes (placesAfter c row)) y x
+unfolding stepOneOf
+fits-cond c row x y = go (passes (placesAfter c row))
+  where
+    go : (b : Bool) → cond (not b) x y ≡ cond b y x
+    go true = refl
+    go false = refl
+
+-- the lengths after step 1
+pub after-is : (c : Counters) (row : List Feedback) → stepOneOf c row .after ≡ placesAfter c row
+unfolding stepOneOf
+after-is c row = refl

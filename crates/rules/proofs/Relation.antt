@@ -8,7 +8,7 @@ use Rattle.rules.proofs.Shared.{Table, TableResult}
 use Rattle.rules.proofs.Views.{seen, atFirst, atPlace, run}
 use Rattle.rules.specs.declared.Places.{Places}
 use Rattle.rules.specs.Calls.{Start}
-use Rattle.rules.specs.Lists.{onlyIf}
+use Rattle.listlaws.specs.Lists.{onlyIf}
 use Rattle.rules.specs.Messages.{Message, Segment, of, segmentsFrom, deliveredOf}
 use Rattle.rules.specs.Plain.{Queues, Plain, PlainResult}
 use Rattle.rules.specs.Positions.{one, part}

@@ -12,7 +12,7 @@ use Rattle.minislot.specs.declared.Feedback.{Feedback}
 use Rattle.rules.proofs.Clauses.{after, settle, asks, front, falls, serves, requestSender}
 use Rattle.rules.proofs.Shared.{askedSender}
 use Rattle.rules.proofs.Views.{senderAt, eqb-self}
-use Rattle.rules.specs.Lists.{onlyIf}
+use Rattle.listlaws.specs.Lists.{onlyIf}
 use Rattle.rules.specs.Messages.{Message, Segment}
 use Rattle.rules.specs.Plain.{plainTurn, sent}
 use Rattle.rules.specs.StationLimits.{Condition, Free, Fresh, Asked, Resolving, Urgent, Long}

@@ -10,7 +10,7 @@ use lib.ListN.{length}
 use Rattle.rules.proofs.Relation.{Agrees, Fits}
 use Rattle.rules.proofs.Views.{seen, atFirst, shifted, run}
 use Rattle.rules.specs.Calls.{Start}
-use Rattle.rules.specs.Lists.{keepIf, onlyIf}
+use Rattle.listlaws.specs.Lists.{keepIf, onlyIf}
 use Rattle.rules.specs.Messages.{Message, Segment, of, segment, deliveredOf}
 use Rattle.rules.specs.Plain.{Plain}
 use Rattle.rules.specs.Positions.{one, part, find, inGroups, conditionOf}

@@ -9,7 +9,7 @@ use Rattle.rules.proofs.Clauses.{asks, front, falls, lower, shorter}
 use Rattle.rules.proofs.Relation.{Fits, remaining, urgentOf, longOf}
 use Rattle.rules.proofs.Views.{seen}
 use Rattle.rules.specs.Calls.{Start}
-use Rattle.rules.specs.Lists.{keepIf, onlyIf}
+use Rattle.listlaws.specs.Lists.{keepIf, onlyIf}
 use Rattle.rules.specs.Messages.{Message, Segment, segment, segmentsFrom, deliveredOf}
 use Rattle.rules.specs.Plain.{served}
 use Rattle.rules.specs.Positions.{one, part}

@@ -4,20 +4,20 @@ use mathlib.Core.Bool.{Bool, true, false, cond}
 use mathlib.Core.List.{List, [], _∷_, map}
 use Prim.Native.Nat.{ℕ, zero, suc, _-_, _≤_}
 use native.Mathlib.Omega.{arith}
-use Rattle.rules.proofs.Landing.{row-other, row-own}
+use Rattle.rules.proofs.Newcomers.{row-other, row-own}
 use Rattle.minislot.specs.declared.Feedback.{Feedback}
 use Rattle.minislot.specs.declared.Feedback.the-variants.{Empty, Single, Collide}
 use Rattle.rules.proofs.Clauses.{read, after, settle}
 use Rattle.rules.proofs.Relation.{lengths, Shows, Fits, freshOf, askedOf, resolvingOf}
 use Rattle.rules.proofs.Views.{seen, atFirst, atPlace}
 use Rattle.rules.specs.Calls.{Start}
-use Rattle.rules.specs.Lists.{onlyIf}
+use Rattle.listlaws.specs.Lists.{onlyIf}
 use Rattle.rules.specs.Messages.{Message, Segment, of}
 use Rattle.rules.specs.Plain.{Queues, joinRow}
 use Rattle.rules.specs.Queueing.{queued}
-use Rattle.rules.specs.Settling.{standsAlone}
 use Rattle.rules.specs.StationLimits.{Condition, Free, Fresh, Asked, Resolving, Urgent, Long}
 use Rattle.rules.specs.declared.Places.{Places}
+use Rattle.rules.proofs.Settled.{standsAlone}
 use borrow.Author.Tests.{eqb-true, ne-eqb, eqb-false}
 use lib.Dec.{eqb}
 

@@ -10,17 +10,17 @@ use Rattle.minislot.specs.declared.Feedback.{Feedback}
 use Rattle.minislot.specs.Row.{weight}
 use Rattle.message.specs.Message.{fitsMessage, slotsFor}
 use Rattle.rules.specs.declared.Places.{Places}
-use Rattle.rules.specs.Lists.{onlyIf}
+use Rattle.listlaws.specs.Lists.{onlyIf}
 use Rattle.rules.specs.Queueing.{immediate, queuedRow, passes}
 use Rattle.rules.specs.Turns.{turnOf, isOpen}
 use Rattle.rules.specs.Falling.{following}
 use Rattle.rules.specs.StationLimits.{Condition, Free, Fresh, Asked, Resolving, Urgent, Long}
 use Rattle.rules.specs.StationCalls.{isFree}
-use Rattle.rules.specs.ChannelCalls.{successes}
 use Rattle.rules.specs.Calls.{Start, index, Answer, Refused, Taken, Went, Call, Offer, Slot}
 use Rattle.rules.specs.Plain.{stationFrom, inRange}
 use Rattle.rules.proofs.Views.{Sender, senderAt}
 use Rattle.rules.proofs.Clauses.{hearing, loneIndexOf, loneNumberOf, settle, asks, falls, sendsBy, serves, nLeft, less}
+use Rattle.rules.specs.Outcome.{successes}
 
 pub record Table : Type 0 where
   pub h : ℕ

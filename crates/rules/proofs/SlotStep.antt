@@ -7,7 +7,7 @@ use native.Mathlib.Omega.{arith}
 use mathlib.Core.Logic.{_≢_}
 use lib.Dec.{leb, ltb, eqb}
 use lib.ListN.{length, length-append, length-map}
-use Rattle.rules.proofs.Landing.{row-lengths}
+use Rattle.rules.proofs.Newcomers.{row-lengths}
 use Rattle.rules.proofs.AskedRows.{row-eq, weight-eq}
 use Rattle.rules.proofs.SettleViews.{settle-fresh}
 use Rattle.rules.proofs.OneStation.{first, later, first-ok, station-ok}
@@ -18,7 +18,6 @@ use Rattle.rules.proofs.Relation.{lengths, Fits, Agrees, Same, Crowded,
 use Rattle.rules.proofs.Shared.{Table, tableRow, tablePlaces, tableSuccess, tableSettled, tableCondition, tableWent, tableSends, tableAnswer, gather, senderIf}
 use Rattle.rules.proofs.Views.{Sender, dataFrom}
 use Rattle.rules.specs.Calls.{Start, index, Went}
-use Rattle.rules.specs.ChannelCalls.{successes}
 use Rattle.rules.specs.Falling.{following}
 use Rattle.rules.specs.Messages.{Message, Segment, ofBy, of}
 use Rattle.rules.specs.Plain.{Queues, Plain, joinAlone, joinMinislot, joinRow, queuesOf, plainSuccess, plainSettled, overflows, renewed, plainMark, nextGroup, plainWent, plainLoneIndex, plainLoneSegment, plainAnswer, grown, plainTurn, served, sent, rest, longLeft, askingRow}
@@ -26,6 +25,7 @@ use Rattle.rules.specs.Queueing.{queuedRow, passes}
 use Rattle.rules.specs.StationLimits.{Free}
 use Rattle.rules.specs.Turns.{Turn, UrgentTurn, LongTurn, ResolveTurn, OpenTurn, isOpen, turnOf}
 use Rattle.rules.specs.declared.Places.{Places}
+use Rattle.rules.specs.Outcome.{successes}
 use borrow.Author.Tests.{eqb-true, eqb-false, lt-ltb, le-ltb, ltb-true, ltb-false, leb-true, leb-false, not-false}
 
 -- lengths of what is left, and the turn

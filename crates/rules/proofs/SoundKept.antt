@@ -1,7 +1,7 @@
 -- The table that the plain channel shows is sound, so 18 never comes. Assumes nothing.
 use mathlib.Core.Path.{_≡_, refl, sym, ap, subst, _∙_}
 use mathlib.Core.Bool.{Bool, true, false, cond, _&&_}
-use mathlib.Core.List.{List, [], _∷_, map}
+use mathlib.Core.List.{List, [], _∷_, map, map-append}
 use Prim.Native.Nat.{ℕ, zero, suc, _+_, _-_, _≤_, _<_}
 use native.Mathlib.Omega.{arith}
 use native.Mathlib.Nat.{zero-add}
@@ -11,11 +11,11 @@ use lib.Seq.{ext-getD}
 use borrow.Author.Tests.{eq-eqb, le-leb, ltb-false}
 use Rattle.minislot.specs.Together.{Request, carries, silent, together}
 use Rattle.rules.specs.declared.Station.{Station}
-use Rattle.rules.specs.declared.Row.{Row}
-use Rattle.rules.specs.Lists.{onlyIf}
+use Rattle.rules.specs.declared.WireRow.{WireRow}
+use Rattle.listlaws.specs.Lists.{onlyIf}
 use Rattle.rules.specs.Limits.{resolutionWithin, openedWithin, groupsWithin, withinLimits, between}
 use Rattle.rules.specs.StationLimits.{Condition, Free, Fresh, Asked, Resolving, Urgent, Long, conditionWithin, stationWithin}
-use Rattle.rules.specs.Soundness.{askedRequest, askedRequests, askedMinislot, soundTable}
+use Rattle.rules.specs.Soundness.{messagesOf, askedRequest, askedRequests, askedMinislot, soundTable}
 use Rattle.rules.specs.ChannelCalls.{Channel}
 use Rattle.rules.specs.SoundMeaning.{atUrgent, coversLong, atResolving, stationAt, howMany, Sound}
 use Rattle.rules.specs.Calls.{Start, index}
@@ -28,7 +28,6 @@ use Rattle.rules.proofs.Sounding.{TableSound, InsideTable, urgentHere, 
 use Rattle.rules.proofs.WireRows.{asRequest, leaves, length-row, row-at}
 use Rattle.rules.proofs.Walking.{IsStation, AreStations}
 use Rattle.rules.proofs.EmbodySlot.{map-if}
-use Rattle.rules.proofs.TestLaws.{map-append}
 use Rattle.rules.proofs.Embody.{Embodies, GoodStart, station-at, same-length}
 use Rattle.rules.proofs.SoundLists.{counters-cong}
 use Rattle.rules.proofs.SoundMeans.{says-sound}
@@ -88,7 +87,7 @@ asked-request ix g j k (Urgent i) = refl
 asked-request ix g j k (Long f l t) = refl
 
 pub asked-are : (S : Start) (t : Table) (g j i : ℕ) (l : List Station) → AreStations S t i l
-    → askedRequests g j l ≡ map (asRequest (index S)) (collect (λ k. askedSender g j k (t .condition k)) (length l) i)
+    → askedRequests g j (messagesOf l) ≡ map (asRequest (index S)) (collect (λ k. askedSender g j k (t .condition k)) (length l) i)
 asked-are S t g j i [] a = refl
 asked-are S t g j i (s ∷ l) a =
     rw (a .0 .index, a .0 .condition, asked-request (index S) g j i (t .condition i), asked-are S t g j (suc i) l (a .1))
@@ -199,12 +198,12 @@ module _ (S : Start) (G : GoodStart S) (p : Plain) (t : Table) (R : Same S p t) 
           long = λ i lo hi. long-at i lo (rw (is-first .long) at hi);
           resolution = λ g i gl gh lo hi. resolving-at g i lo (rw (is-first .resolution g gl gh) at hi);
           wire = λ g j gl gh jl jh.
-              ap (λ (r : Row). getD (r .minislots) (j - 1) silent) (E .wire g gl gh)
+              ap (λ (r : WireRow). getD (r .minislots) (j - 1) silent) (E .wire g gl gh)
               ∙ row-at (index S) (length (S .indexes)) (λ j k. askedSender g j k (t .condition k)) 8 1 (j - 1) silent (omega arith)
               ∙ ap (λ (z : ℕ). leaves (index S) (gather (λ k. askedSender g z k (t .condition k)) (length (S .indexes)))) (let w : 1 + (j - 1) ≡ j = omega arith in w)
               ∙ ap (λ (n : ℕ). leaves (index S) (gather (λ k. askedSender g j k (t .condition k)) n)) (sym (same-length S t ch E))
               ∙ ap (λ (l : List Request). together (map carries l)) (sym (asked-are S t g j 0 (ch .stations) (E .stations)));
-          size = (E .groups, λ g gl gh. ap (λ (r : Row). length (r .minislots)) (E .wire g gl gh) ∙ length-row (index S) (length (S .indexes)) (λ j k. askedSender g j k (t .condition k)) 8 1);
+          size = (E .groups, λ g gl gh. ap (λ (r : WireRow). length (r .minislots)) (E .wire g gl gh) ∙ length-row (index S) (length (S .indexes)) (λ j k. askedSender g j k (t .condition k)) 8 1);
         }
       where
         urgent-at : (i : ℕ) → 1 ≤ i → i ≤ t .h → howMany (atUrgent i) (ch .stations) ≡ 1

@@ -9,16 +9,17 @@ use lib.Dec.{eqb, leb}
 use borrow.Author.Tests.{eqb-true, leb-true}
 use Rattle.rules.specs.declared.Counters.{Counters}
 use Rattle.rules.specs.declared.Station.{Station}
-use Rattle.rules.specs.Lists.{gatherOf, onlyIf}
+use Rattle.listlaws.specs.Lists.{gatherOf, onlyIf}
 use Rattle.rules.specs.Limits.{between}
 use Rattle.rules.specs.StationLimits.{Condition, Free, Fresh, Asked, Resolving, Urgent, Long, resolutionAt, conditionWithin}
-use Rattle.rules.specs.Soundness.{sameNumbers, sameMarks, sameCounters, urgentPlace, urgentPlaces, Stretch, longStretch, longStretches, resolvingPlace, resolvingPlaces}
+use Rattle.places.specs.declared.Stretch.{Stretch}
+use Rattle.rules.specs.Soundness.{messagesOf, sameNumbers, sameMarks, sameCounters, urgentPlace, urgentPlaces, longStretch, longStretches, resolvingPlace, resolvingPlaces}
 use Rattle.rules.specs.SoundMeaning.{atUrgent, coversLong, atResolving, howMany}
 use Rattle.rules.proofs.Views.{eqb-self}
 use Rattle.rules.proofs.LimitLaws.{between-bounds}
 use Rattle.rules.proofs.SlotStep.{and-both}
-use Rattle.rules.proofs.TestLaws.{gather-append}
-use Rattle.rules.proofs.Counting.{times, Inside, times-append, inside-append, upFrom, spread, times-spread, AllLeft}
+use Rattle.listlaws.proofs.Joining.{gather-append}
+use Rattle.places.proofs.Counting.{times, Inside, times-append, inside-append, upFrom, spread, times-spread, AllLeft}
 
 -- every condition is within its limits under the counters c
 abbrev pub AllWithin : Counters → List Station → Type 0
@@ -36,9 +37,9 @@ urgent-inside c (Resolving g i t) e = tt
 urgent-inside c (Urgent i) e = let (a, b) = between-bounds 1 i (c .urgent) e in (a, b, tt)
 urgent-inside c (Long f l t) e = tt
 
-pub urgents-inside : (c : Counters) (l : List Station) → AllWithin c l → Inside (c .urgent) (urgentPlaces l)
+pub urgents-inside : (c : Counters) (l : List Station) → AllWithin c l → Inside (c .urgent) (urgentPlaces (messagesOf l))
 urgents-inside c [] w = tt
-urgents-inside c (s ∷ l) w = inside-append (c .urgent) (urgentPlace (s .condition)) (urgentPlaces l) (urgent-inside c (s .condition) (w .0)) (urgents-inside c l (w .1))
+urgents-inside c (s ∷ l) w = inside-append (c .urgent) (urgentPlace (s .condition)) (urgentPlaces (messagesOf l)) (urgent-inside c (s .condition) (w .0)) (urgents-inside c l (w .1))
 
 urgent-times : (i : ℕ) (k : Condition) → times i (urgentPlace k) ≡ cond (atUrgent i k) 1 0
 urgent-times i Free = refl
@@ -48,9 +49,9 @@ urgent-times i (Resolving g j t) = refl
 urgent-times i (Urgent j) = omega arith
 urgent-times i (Long f l t) = refl
 
-pub urgents-times : (i : ℕ) (l : List Station) → times i (urgentPlaces l) ≡ howMany (atUrgent i) l
+pub urgents-times : (i : ℕ) (l : List Station) → times i (urgentPlaces (messagesOf l)) ≡ howMany (atUrgent i) l
 urgents-times i [] = refl
-urgents-times i (s ∷ l) = times-append i (urgentPlace (s .condition)) (urgentPlaces l) ∙ rw (urgent-times i (s .condition), urgents-times i l)
+urgents-times i (s ∷ l) = times-append i (urgentPlace (s .condition)) (urgentPlaces (messagesOf l)) ∙ rw (urgent-times i (s .condition), urgents-times i l)
 
 -- ---- the long queue
 
@@ -76,11 +77,11 @@ long-inside c (Resolving g i t) e = tt
 long-inside c (Urgent i) e = tt
 long-inside c (Long f l t) e = let (a, b, d, most) = long-parts c f l t e in inside-append (c .long) (upFrom f l) [] (up-inside (c .long) f l a d) tt
 
-pub longs-inside : (c : Counters) (l : List Station) → AllWithin c l → Inside (c .long) (gatherOf spread (longStretches l))
+pub longs-inside : (c : Counters) (l : List Station) → AllWithin c l → Inside (c .long) (gatherOf spread (longStretches (messagesOf l)))
 longs-inside c [] w = tt
 longs-inside c (s ∷ l) w =
-    rw (gather-append spread (longStretch (s .condition)) (longStretches l))
-    (inside-append (c .long) (gatherOf spread (longStretch (s .condition))) (gatherOf spread (longStretches l)) (long-inside c (s .condition) (w .0)) (longs-inside c l (w .1)))
+    rw (gather-append spread (longStretch (s .condition)) (longStretches (messagesOf l)))
+    (inside-append (c .long) (gatherOf spread (longStretch (s .condition))) (gatherOf spread (longStretches (messagesOf l))) (long-inside c (s .condition) (w .0)) (longs-inside c l (w .1)))
 
 left-append : (a b : List Stretch) → AllLeft a → AllLeft b → AllLeft (a ++ b)
 left-append [] b p q = q
@@ -94,9 +95,9 @@ long-left c (Resolving g i t) e = tt
 long-left c (Urgent i) e = tt
 long-left c (Long f l t) e = (long-parts c f l t e .1, tt)
 
-pub longs-left : (c : Counters) (l : List Station) → AllWithin c l → AllLeft (longStretches l)
+pub longs-left : (c : Counters) (l : List Station) → AllWithin c l → AllLeft (longStretches (messagesOf l))
 longs-left c [] w = tt
-longs-left c (s ∷ l) w = left-append (longStretch (s .condition)) (longStretches l) (long-left c (s .condition) (w .0)) (longs-left c l (w .1))
+longs-left c (s ∷ l) w = left-append (longStretch (s .condition)) (longStretches (messagesOf l)) (long-left c (s .condition) (w .0)) (longs-left c l (w .1))
 
 long-times : (i : ℕ) (k : Condition) → times i (gatherOf spread (longStretch k)) ≡ cond (coversLong i k) 1 0
 long-times i Free = refl
@@ -106,11 +107,11 @@ long-times i (Resolving g j t) = refl
 long-times i (Urgent j) = refl
 long-times i (Long f l t) = ap (times i) (append-nil (upFrom f l)) ∙ times-spread (record { first = f; left = l }) i
 
-pub longs-times : (i : ℕ) (l : List Station) → times i (gatherOf spread (longStretches l)) ≡ howMany (coversLong i) l
+pub longs-times : (i : ℕ) (l : List Station) → times i (gatherOf spread (longStretches (messagesOf l))) ≡ howMany (coversLong i) l
 longs-times i [] = refl
 longs-times i (s ∷ l) =
-    ap (times i) (gather-append spread (longStretch (s .condition)) (longStretches l))
-    ∙ times-append i (gatherOf spread (longStretch (s .condition))) (gatherOf spread (longStretches l)) ∙ rw (long-times i (s .condition), longs-times i l)
+    ap (times i) (gather-append spread (longStretch (s .condition)) (longStretches (messagesOf l)))
+    ∙ times-append i (gatherOf spread (longStretch (s .condition))) (gatherOf spread (longStretches (messagesOf l))) ∙ rw (long-times i (s .condition), longs-times i l)
 
 -- ---- a resolution queue
 
@@ -131,10 +132,10 @@ resolving-inside c g (Resolving h i t) e = go (eqb h g) refl
 resolving-inside c g (Urgent i) e = tt
 resolving-inside c g (Long f l t) e = tt
 
-pub resolvings-inside : (c : Counters) (g : ℕ) (l : List Station) → AllWithin c l → Inside (resolutionAt c g) (resolvingPlaces g l)
+pub resolvings-inside : (c : Counters) (g : ℕ) (l : List Station) → AllWithin c l → Inside (resolutionAt c g) (resolvingPlaces g (messagesOf l))
 resolvings-inside c g [] w = tt
 resolvings-inside c g (s ∷ l) w =
-    inside-append (resolutionAt c g) (resolvingPlace g (s .condition)) (resolvingPlaces g l) (resolving-inside c g (s .condition) (w .0)) (resolvings-inside c g l (w .1))
+    inside-append (resolutionAt c g) (resolvingPlace g (s .condition)) (resolvingPlaces g (messagesOf l)) (resolving-inside c g (s .condition) (w .0)) (resolvings-inside c g l (w .1))
 
 resolving-times : (g i : ℕ) (k : Condition) → times i (resolvingPlace g k) ≡ cond (atResolving g i k) 1 0
 resolving-times g i Free = refl
@@ -148,9 +149,9 @@ resolving-times g i (Resolving h j t) = go (eqb h g)
 resolving-times g i (Urgent j) = refl
 resolving-times g i (Long f l t) = refl
 
-pub resolvings-times : (g i : ℕ) (l : List Station) → times i (resolvingPlaces g l) ≡ howMany (atResolving g i) l
+pub resolvings-times : (g i : ℕ) (l : List Station) → times i (resolvingPlaces g (messagesOf l)) ≡ howMany (atResolving g i) l
 resolvings-times g i [] = refl
-resolvings-times g i (s ∷ l) = times-append i (resolvingPlace g (s .condition)) (resolvingPlaces g l) ∙ rw (resolving-times g i (s .condition), resolvings-times g i l)
+resolvings-times g i (s ∷ l) = times-append i (resolvingPlace g (s .condition)) (resolvingPlaces g (messagesOf l)) ∙ rw (resolving-times g i (s .condition), resolvings-times g i l)
 
 -- ---- counters that are equal, as a test
 

@@ -14,12 +14,14 @@ use Rattle.minislot.specs.declared.Minislot.{Minislot}
 use Rattle.minislot.specs.Together.{silent}
 use Rattle.rules.specs.declared.Counters.{Counters}
 use Rattle.rules.specs.declared.Station.{Station}
-use Rattle.rules.specs.declared.Row.{Row}
-use Rattle.rules.specs.Lists.{each, eachPair, sumOf, gatherOf}
+use Rattle.rules.specs.declared.WireRow.{WireRow}
+use Rattle.listlaws.specs.Lists.{each, eachPair, sumOf, gatherOf}
 use Rattle.listlaws.specs.Every.{everyFrom}
 use Rattle.rules.specs.StationLimits.{resolutionAt, stationWithin}
 use Rattle.rules.specs.StationCalls.{noStation}
-use Rattle.rules.specs.Soundness.{tableCounters, otherIndex, indexesDistinct, recordsWithin, sameCounters, countersShared, differ, urgentPlaces, urgentSound, Stretch, apart, longStretches, longSound, differentPlaces, namedTwice, resolvingPlaces, resolutionSoundAt, resolutionSound, askedMinislot, sameMinislot, rowSound, wireSound, soundTable}
+use Rattle.places.specs.declared.Stretch.{Stretch}
+use Rattle.places.specs.Places.{differ, apart, differentPlaces, namedTwice}
+use Rattle.rules.specs.Soundness.{messagesOf, tableCounters, otherIndex, indexesDistinct, recordsWithin, sameCounters, countersShared, urgentPlaces, urgentSound, longStretches, longSound, resolvingPlaces, resolutionSoundAt, resolutionSound, askedMinislot, sameMinislot, rowSound, wireSound, soundTable}
 use Rattle.rules.specs.ChannelCalls.{blankRow}
 use Rattle.rules.specs.SoundMeaning.{atUrgent, coversLong, atResolving, stationAt, howMany, Sound}
 use Rattle.rules.proofs.Views.{eqb-self}
@@ -27,7 +29,7 @@ use Rattle.listlaws.proofs.Table.{from-holds, from-at}
 use Rattle.rules.proofs.LimitLaws.{within-limits, arrays-lengths, station-in}
 use Rattle.rules.proofs.SlotStep.{and-both}
 use Rattle.rules.proofs.SoundTests.{SoundTests, sound-tests, tests-sound}
-use Rattle.rules.proofs.Counting.{pairs-once, once-pairs, exactly-one, one-each, spread, length-spread, apart-once, once-apart, two-or-more, twice-each}
+use Rattle.places.proofs.Counting.{pairs-once, once-pairs, exactly-one, one-each, spread, length-spread, apart-once, once-apart, two-or-more, twice-each}
 use Rattle.rules.proofs.SoundLists.{AllWithin, urgents-inside, urgents-times, longs-inside, longs-left, longs-times, resolvings-inside, resolvings-times, counters-eq, counters-self}
 
 -- ---- lists of stations, element by element
@@ -84,7 +86,7 @@ slot-same a b e = rw (e, eqb-self (b .word), eqb-self (b .count))
 
 -- ---- THE TEST SAYS WHAT THE PAPER SAYS
 
-module _ (stations : List Station) (rows : List Row) (e : soundTable stations rows ≡ true) where
+module _ (stations : List Station) (rows : List WireRow) (e : soundTable stations rows ≡ true) where
   t : SoundTests stations rows
   t = sound-tests stations rows e
 
@@ -110,18 +112,18 @@ module _ (stations : List Station) (rows : List Row) (e : soundTable stations ro
   unfolding urgentSound
   says-urgent zero lo hi = absurd (omega arith)
   says-urgent (suc i) lo hi =
-      let (x, y) = and-both (eqb (length (urgentPlaces stations)) (tableCounters stations .urgent)) (eachPair differ (urgentPlaces stations)) (t .urgent) in
+      let (x, y) = and-both (eqb (length (urgentPlaces (messagesOf stations))) (tableCounters stations .urgent)) (eachPair differ (urgentPlaces (messagesOf stations))) (t .urgent) in
       sym (urgents-times (suc i) stations)
-      ∙ exactly-one (tableCounters stations .urgent) (urgentPlaces stations) (urgents-inside (tableCounters stations) stations all-in) (eqb-true _ _ x) (pairs-once (urgentPlaces stations) y) i (omega arith)
+      ∙ exactly-one (tableCounters stations .urgent) (urgentPlaces (messagesOf stations)) (urgents-inside (tableCounters stations) stations all-in) (eqb-true _ _ x) (pairs-once (urgentPlaces (messagesOf stations)) y) i (omega arith)
 
   says-long : (i : ℕ) → 1 ≤ i → i ≤ tableCounters stations .long → howMany (coversLong i) stations ≡ 1
   unfolding longSound
   says-long zero lo hi = absurd (omega arith)
   says-long (suc i) lo hi =
-      let (x, y) = and-both (eqb (sumOf (λ (s : Stretch). s .left) (longStretches stations)) (tableCounters stations .long)) (eachPair apart (longStretches stations)) (t .long) in
+      let (x, y) = and-both (eqb (sumOf (λ (s : Stretch). s .left) (longStretches (messagesOf stations))) (tableCounters stations .long)) (eachPair apart (longStretches (messagesOf stations))) (t .long) in
       sym (longs-times (suc i) stations)
-      ∙ exactly-one (tableCounters stations .long) (gatherOf spread (longStretches stations)) (longs-inside (tableCounters stations) stations all-in)
-      (length-spread (longStretches stations) ∙ eqb-true _ _ x) (apart-once (longStretches stations) y) i (omega arith)
+      ∙ exactly-one (tableCounters stations .long) (gatherOf spread (longStretches (messagesOf stations))) (longs-inside (tableCounters stations) stations all-in)
+      (length-spread (longStretches (messagesOf stations)) ∙ eqb-true _ _ x) (apart-once (longStretches (messagesOf stations)) y) i (omega arith)
 
   says-resolution : (g i : ℕ) → 1 ≤ g → g ≤ 8 → 1 ≤ i → i ≤ resolutionAt (tableCounters stations) g → 2 ≤ howMany (atResolving g i) stations
   unfolding resolutionSound
@@ -130,19 +132,19 @@ module _ (stations : List Station) (rows : List Row) (e : soundTable stations ro
       let q = from-at (λ (i : ℕ) (r : ℕ). resolutionSoundAt stations (suc i) r) 0 (tableCounters stations .resolution) 0 (t .resolution) (g - 1) (omega (arith, first-length stations says-within)) in
       let v : resolutionSoundAt stations g (resolutionAt (tableCounters stations) g) ≡ true =
       subst (λ (z : ℕ). resolutionSoundAt stations z (resolutionAt (tableCounters stations) g) ≡ true) (let w : suc (0 + (g - 1)) ≡ g = omega arith in w) q in
-      let (x, y) = and-both (eqb (differentPlaces (resolvingPlaces g stations)) (resolutionAt (tableCounters stations) g)) (each (namedTwice (resolvingPlaces g stations)) (resolvingPlaces g stations)) v in
+      let (x, y) = and-both (eqb (differentPlaces (resolvingPlaces g (messagesOf stations))) (resolutionAt (tableCounters stations) g)) (each (namedTwice (resolvingPlaces g (messagesOf stations))) (resolvingPlaces g (messagesOf stations))) v in
       rw (← (resolvings-times g (suc i) stations))
-      (two-or-more (resolutionAt (tableCounters stations) g) (resolvingPlaces g stations) (resolvings-inside (tableCounters stations) g stations all-in) (eqb-true _ _ x) y i (omega arith))
+      (two-or-more (resolutionAt (tableCounters stations) g) (resolvingPlaces g (messagesOf stations)) (resolvings-inside (tableCounters stations) g stations all-in) (eqb-true _ _ x) y i (omega arith))
 
   wire-eight : length rows ≡ 8
   unfolding wireSound
-  wire-eight = eqb-true (length rows) 8 (and-both (eqb (length rows) 8) (everyFrom (λ (i : ℕ) (row : Row). rowSound stations (suc i) row) 0 rows) (t .wire) .0)
+  wire-eight = eqb-true (length rows) 8 (and-both (eqb (length rows) 8) (everyFrom (λ (i : ℕ) (row : WireRow). rowSound stations (suc i) row) 0 rows) (t .wire) .0)
 
   row-sound : (g : ℕ) → 1 ≤ g → g ≤ 8 → rowSound stations g (getD rows (g - 1) blankRow) ≡ true
   unfolding wireSound
   row-sound g gl gh =
       subst (λ (z : ℕ). rowSound stations z (getD rows (g - 1) blankRow) ≡ true) (let w : suc (0 + (g - 1)) ≡ g = omega arith in w)
-      (from-at (λ (i : ℕ) (row : Row). rowSound stations (suc i) row) blankRow rows 0 (and-both (eqb (length rows) 8) (everyFrom (λ (i : ℕ) (row : Row). rowSound stations (suc i) row) 0 rows) (t .wire) .1) (g - 1) (omega (arith, wire-eight)))
+      (from-at (λ (i : ℕ) (row : WireRow). rowSound stations (suc i) row) blankRow rows 0 (and-both (eqb (length rows) 8) (everyFrom (λ (i : ℕ) (row : WireRow). rowSound stations (suc i) row) 0 rows) (t .wire) .1) (g - 1) (omega (arith, wire-eight)))
 
   row-eight : (g : ℕ) → 1 ≤ g → g ≤ 8 → length (getD rows (g - 1) blankRow .minislots) ≡ 8
   row-eight g gl gh = eqb-true _ _ (and-both (eqb (length (getD rows (g - 1) blankRow .minislots)) 8) _ (row-sound g gl gh) .0)
@@ -169,7 +171,7 @@ module _ (stations : List Station) (rows : List Row) (e : soundTable stations ro
 
 -- ---- AND THE OTHER WAY ROUND
 
-module _ (stations : List Station) (rows : List Row) (s : Sound stations rows) where
+module _ (stations : List Station) (rows : List WireRow) (s : Sound stations rows) where
   in-limits : AllWithin (tableCounters stations) stations
   in-limits = all-within (tableCounters stations) stations s.within s.shared
 
@@ -181,20 +183,20 @@ module _ (stations : List Station) (rows : List Row) (s : Sound stations rows) w
         within = at-all stationWithin noStation stations s.within;
         shared = at-all (λ (x : Station). sameCounters (tableCounters stations) (x .counters)) noStation stations (λ k h. rw (s .shared k h) (counters-self (tableCounters stations)));
         urgent =
-            let (x, y) = one-each (tableCounters stations .urgent) (urgentPlaces stations) (urgents-inside (tableCounters stations) stations in-limits)
+            let (x, y) = one-each (tableCounters stations .urgent) (urgentPlaces (messagesOf stations)) (urgents-inside (tableCounters stations) stations in-limits)
             (λ i h. urgents-times (suc i) stations ∙ s .urgent (suc i) (omega arith) (omega arith)) in
-            rw (eq-eqb (length (urgentPlaces stations)) (tableCounters stations .urgent) x) (once-pairs (urgentPlaces stations) y);
+            rw (eq-eqb (length (urgentPlaces (messagesOf stations))) (tableCounters stations .urgent) x) (once-pairs (urgentPlaces (messagesOf stations)) y);
         long =
-            let (x, y) = one-each (tableCounters stations .long) (gatherOf spread (longStretches stations)) (longs-inside (tableCounters stations) stations in-limits)
+            let (x, y) = one-each (tableCounters stations .long) (gatherOf spread (longStretches (messagesOf stations))) (longs-inside (tableCounters stations) stations in-limits)
             (λ i h. longs-times (suc i) stations ∙ s .long (suc i) (omega arith) (omega arith)) in
-            rw (eq-eqb (sumOf (λ (z : Stretch). z .left) (longStretches stations)) (tableCounters stations .long) (sym (length-spread (longStretches stations)) ∙ x))
-            (once-apart (longStretches stations) (longs-left (tableCounters stations) stations in-limits) y);
+            rw (eq-eqb (sumOf (λ (z : Stretch). z .left) (longStretches (messagesOf stations))) (tableCounters stations .long) (sym (length-spread (longStretches (messagesOf stations))) ∙ x))
+            (once-apart (longStretches (messagesOf stations)) (longs-left (tableCounters stations) stations in-limits) y);
         resolution =
             from-holds (λ (i : ℕ) (r : ℕ). resolutionSoundAt stations (suc i) r) 0 (tableCounters stations .resolution) 0
             (λ k h. resolution-at (0 + k) k (zero-add k) (omega (arith, first-length stations s.within)));
         wire =
             rw (eq-eqb (length rows) 8 (s .size .0))
-            (from-holds (λ (i : ℕ) (row : Row). rowSound stations (suc i) row) blankRow rows 0 (λ k h. row-at (0 + k) k (zero-add k) (omega (arith, s .size .0))));
+            (from-holds (λ (i : ℕ) (row : WireRow). rowSound stations (suc i) row) blankRow rows 0 (λ k h. row-at (0 + k) k (zero-add k) (omega (arith, s .size .0))));
       }
     where
       resolution-at : (z k : ℕ) → z ≡ k → k < 8 → resolutionSoundAt stations (suc z) (getD (tableCounters stations .resolution) k 0) ≡ true
@@ -202,9 +204,9 @@ module _ (stations : List Station) (rows : List Row) (s : Sound stations rows) w
           rw e
           (let w : suc k - 1 ≡ k = omega arith in
           let at : resolutionAt (tableCounters stations) (suc k) ≡ getD (tableCounters stations .resolution) k 0 = ap (λ (i : ℕ). getD (tableCounters stations .resolution) i 0) w in
-          let (x, y) = twice-each (resolutionAt (tableCounters stations) (suc k)) (resolvingPlaces (suc k) stations) (resolvings-inside (tableCounters stations) (suc k) stations in-limits)
+          let (x, y) = twice-each (resolutionAt (tableCounters stations) (suc k)) (resolvingPlaces (suc k) (messagesOf stations)) (resolvings-inside (tableCounters stations) (suc k) stations in-limits)
           (λ i l. rw (resolvings-times (suc k) (suc i) stations) (s .resolution (suc k) (suc i) (omega arith) (omega arith) (omega arith) (omega arith))) in
-          rw (eq-eqb (differentPlaces (resolvingPlaces (suc k) stations)) (getD (tableCounters stations .resolution) k 0) (x ∙ at)) y)
+          rw (eq-eqb (differentPlaces (resolvingPlaces (suc k) (messagesOf stations))) (getD (tableCounters stations .resolution) k 0) (x ∙ at)) y)
 
       slot-at : (k : ℕ) → k < 8 → (z j : ℕ) → z ≡ j → j < 8 → sameMinislot (getD (getD rows k blankRow .minislots) j silent) (askedMinislot stations (suc k) (suc z)) ≡ true
       slot-at k h z j e w =

@@ -3,11 +3,11 @@ use mathlib.Core.Path.{_≡_}
 use mathlib.Core.Bool.{true, _&&_}
 use mathlib.Core.List.{List}
 use Rattle.rules.specs.declared.Station.{Station}
-use Rattle.rules.specs.declared.Row.{Row}
+use Rattle.rules.specs.declared.WireRow.{WireRow}
 use Rattle.rules.proofs.SlotStep.{and-both}
 use Rattle.rules.specs.Soundness.{indexesDistinct, recordsWithin, countersShared, urgentSound, longSound, resolutionSound, wireSound, soundTable}
 
-pub record SoundTests (stations : List Station) (rows : List Row) : Type 0 where
+pub record SoundTests (stations : List Station) (rows : List WireRow) : Type 0 where
   pub distinct : indexesDistinct stations ≡ true
   pub within : recordsWithin stations ≡ true
   pub shared : countersShared stations ≡ true
@@ -16,7 +16,7 @@ pub record SoundTests (stations : List Station) (rows : List Row) : Type 0 where
   pub resolution : resolutionSound stations ≡ true
   pub wire : wireSound stations rows ≡ true
 
-pub sound-tests : (stations : List Station) (wire : List Row) → soundTable stations wire ≡ true → SoundTests stations wire
+pub sound-tests : (stations : List Station) (wire : List WireRow) → soundTable stations wire ≡ true → SoundTests stations wire
 unfolding soundTable
 sound-tests s w e =
     let x6 = and-both (indexesDistinct s && recordsWithin s && countersShared s && urgentSound s && longSound s && resolutionSound s) (wireSound s w) e in
@@ -27,6 +27,6 @@ sound-tests s w e =
     let x1 = and-both (indexesDistinct s) (recordsWithin s) (x2 .0) in
     record { distinct = x1 .0; within = x1 .1; shared = x2 .1; urgent = x3 .1; long = x4 .1; resolution = x5 .1; wire = x6 .1 }
 
-pub tests-sound : (stations : List Station) (wire : List Row) → SoundTests stations wire → soundTable stations wire ≡ true
+pub tests-sound : (stations : List Station) (wire : List WireRow) → SoundTests stations wire → soundTable stations wire ≡ true
 unfolding soundTable
 tests-sound s w t = rw (t .distinct, t .within, t .shared, t .urgent, t .long, t .resolution, t .wire)

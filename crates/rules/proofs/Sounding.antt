@@ -8,13 +8,14 @@ use native.Mathlib.Omega.{arith}
 use native.Mathlib.Nat.{zero-add, suc-add}
 use lib.Dec.{leb, ltb, leb·zero, leb·suc-zero, leb·suc-suc, eqb}
 use lib.ListN.{length, length-map}
-use Rattle.rules.proofs.Census.{total-cong, length-total, length-gather, ofBy-ofBy}
+use Rattle.listlaws.proofs.Totals.{total-cong}
+use Rattle.rules.proofs.Census.{length-total, length-gather, ofBy-ofBy}
 use Rattle.rules.proofs.QueueViews.{shifted-at as shifted-here, shifted-plus, place-map}
 use Rattle.rules.proofs.Relation.{Agrees, Same, Fits, Crowded, urgentOf, longOf, resolvingOf}
 use Rattle.rules.proofs.Shared.{Table, gather}
 use Rattle.rules.proofs.Views.{Sender, senderAt, eqb-self, seen, atFirst, shifted, atPlace, run}
 use Rattle.rules.specs.Calls.{Start}
-use Rattle.rules.specs.Lists.{keepIf, onlyIf}
+use Rattle.listlaws.specs.Lists.{keepIf, onlyIf}
 use Rattle.rules.specs.Messages.{Message, Segment, ofBy, of, segment}
 use Rattle.rules.specs.Plain.{Plain}
 use Rattle.rules.specs.Positions.{one, part}

@@ -14,12 +14,12 @@ use Rattle.minislot.specs.declared.Minislot.{Minislot}
 use Rattle.minislot.specs.Together.{silent, together}
 use Rattle.rules.specs.declared.Station.{Station}
 use Rattle.rules.specs.declared.StartAnswer.the-variants.{Ready}
-use Rattle.rules.specs.Lists.{each, eachPair}
+use Rattle.listlaws.specs.Lists.{each, eachPair}
 use Rattle.rules.specs.Limits.{between}
 use Rattle.rules.specs.Starting.{inRanges}
-use Rattle.rules.specs.StationCalls.{startStation}
-use Rattle.rules.specs.Soundness.{differ}
-use Rattle.rules.specs.ChannelCalls.{Channel, blankRow, newChannel, hasStations, isIndex, refusedStart, channelStartOf}
+use Rattle.rules.specs.StationCalls.{startStation, isIndex}
+use Rattle.places.specs.Places.{differ}
+use Rattle.rules.specs.ChannelCalls.{Channel, blankRow, newChannel, hasStations, ChannelStarted, channelStartNumberOf, channelStartOf, refusedBeginning}
 use Rattle.rules.specs.Calls.{Start, index}
 use Rattle.rules.proofs.Views.{Sender}
 use Rattle.rules.proofs.Shared.{tableStart, collect}
@@ -28,6 +28,7 @@ use Rattle.rules.proofs.SlotStep.{and-both}
 use Rattle.rules.proofs.SoundMeans.{all-at, pair-at, not-eq}
 use Rattle.rules.proofs.WireRows.{minislotRow}
 use Rattle.rules.proofs.Walking.{AreStations}
+use Rattle.rules.proofs.Refusals.{through-only, test-passed}
 use Rattle.rules.proofs.Embody.{Embodies, GoodStart}
 
 abbrev startOn : ℕ → ℕ → List ℕ → Start
@@ -61,20 +62,16 @@ good before m n indexes e5 e14 e8 e15 =
 
 pub started : (before : Channel) (m n : ℕ) (indexes : List ℕ) → channelStartOf before m n indexes .answer ≡ Ready
     → GoodStart (startOn m n indexes) × (channelStartOf before m n indexes .state ≡ newChannel m n indexes)
-unfolding channelStartOf
+unfolding channelStartOf channelStartNumberOf
 started before m n indexes e =
-    go (inRanges m n) refl (hasStations (before .stations) && eqb (length indexes) (length (before .stations))) refl (each isIndex indexes) refl (eachPair differ indexes) refl e
-  where
-    go : (a : Bool) → inRanges m n ≡ a → (b : Bool) → (hasStations (before .stations) && eqb (length indexes) (length (before .stations))) ≡ b → (c : Bool) → each isIndex indexes ≡ c
-        → (d : Bool) → eachPair differ indexes ≡ d
-        → cond a (cond b (cond c (cond d (record { state = newChannel m n indexes; answer = Ready }) (refusedStart before 15)) (refusedStart before 8)) (refusedStart before 14)) (refusedStart before 5) .answer ≡ Ready
-        → GoodStart (startOn m n indexes)
-        × (cond a (cond b (cond c (cond d (record { state = newChannel m n indexes; answer = Ready }) (refusedStart before 15)) (refusedStart before 8)) (refusedStart before 14)) (refusedStart before 5) .state ≡ newChannel m n indexes)
-    go true e5 true e14 true e8 true e15 e = (good before m n indexes e5 e14 e8 e15, refl)
-    go true e5 true e14 true e8 false e15 e = let z : _≡_ {A = ℕ} 0 1 = cc in absurd (omega arith)
-    go true e5 true e14 false e8 d e15 e = let z : _≡_ {A = ℕ} 0 1 = cc in absurd (omega arith)
-    go true e5 false e14 c e8 d e15 e = let z : _≡_ {A = ℕ} 0 1 = cc in absurd (omega arith)
-    go false e5 b e14 c e8 d e15 e = let z : _≡_ {A = ℕ} 0 1 = cc in absurd (omega arith)
+    let none =
+    through-only (λ (r : ChannelStarted). r .answer ≡ Ready) (channelStartNumberOf (length (before .stations)) m n indexes) (refusedBeginning before) _
+    (λ k q. let z : _≡_ {A = ℕ} 0 1 = cc in absurd (omega arith)) e in
+    let (e5, after5) = test-passed (inRanges m n) 5 _ refl none in
+    let (e14, after14) = test-passed (hasStations (before .stations) && eqb (length indexes) (length (before .stations))) 14 _ refl after5 in
+    let (e8, after8) = test-passed (each isIndex indexes) 8 _ refl after14 in
+    let (e15, _) = test-passed (eachPair differ indexes) 15 _ refl after8 in
+    (good before m n indexes e5 e14 e8 e15, rw (e5, e14, e8, e15))
 
 -- ---- the new channel is the start's table
 

@@ -7,7 +7,7 @@ use native.Mathlib.Omega.{arith}
 use native.Mathlib.Nat.{zero-add}
 use lib.ListN.{length, getD}
 use Rattle.minislot.specs.Together.{silent}
-use Rattle.rules.specs.declared.Row.{Row}
+use Rattle.rules.specs.declared.WireRow.{WireRow}
 use Rattle.rules.specs.StationLimits.{Long}
 use Rattle.rules.specs.Serving.{waiting}
 use Rattle.rules.specs.SoundMeaning.{stationAt}
@@ -15,11 +15,11 @@ use Rattle.rules.specs.ChannelCalls.{Channel, newChannel, channelCall, c
 use Rattle.rules.specs.Calls.{Start, index, Call, Offer, Slot}
 use Rattle.rules.specs.Messages.{Segment}
 use Rattle.rules.specs.Plain.{Plain, plainStart, plainCall, plainAfter, plainAnswers}
-use Rattle.rules.specs.Demand3.{noMessage, longAt, takenAt, SendersAre, SenderRule, MessageShows, Demand3, Demand3Holds}
+use Rattle.rules.specs.Demand3.{noMessage, segmentAt, messageAt, SendersAre, SenderRule, MessageShows, Demand3After, Demand3Holds}
 use Rattle.rules.proofs.Views.{senderAt, dataFrom, seen}
 use Rattle.rules.proofs.Shared.{Table, tableStart, tableCall, tableAfter, tableAnswers, gather, askedSender}
 use Rattle.rules.proofs.Relation.{Same, Fits}
-use Rattle.rules.proofs.Census.{total}
+use Rattle.listlaws.proofs.Totals.{total}
 use Rattle.rules.proofs.SlotStep.{settled-eq}
 use Rattle.rules.proofs.CallStep.{begin-same, call-same}
 use Rattle.rules.proofs.ListStep.{run-same, run-answers, Shown, shown, ledger-all}
@@ -98,7 +98,7 @@ module _ (S : Start) (G : GoodStart S) where
     is k h = is-at S G plain table R after E k (omega (arith, as-many))
 
     stretch-shows : (k f l t i : ℕ) → k < length (S .indexes) → stationAt (after .stations) k .condition ≡ Long f l t → i < l
-        → (longAt plain (f + i) .message .station ≡ k) × (longAt plain (f + i) .number ≡ t - l + 1 + i)
+        → (segmentAt plain (f + i) .message .station ≡ k) × (segmentAt plain (f + i) .number ≡ t - l + 1 + i)
     stretch-shows k f l t i h e hi =
         let q : table .condition k ≡ Long f l t = sym (is k h .condition) ∙ e in
         let fit : Fits S (R .message k) (Long f l t) = subst (Fits S (R .message k)) q (R .agrees k .fits) in
@@ -107,18 +107,18 @@ module _ (S : Start) (G : GoodStart S) where
         (ap (seen (λ (x : Segment). dataFrom x ∷ []) (plain .long)) (sym at) ∙ w .stretch k f l t q i hi) in
         (ap (λ s. s .position) v, ap (λ s. s .value) v)
 
-    message-shows : (i : ℕ) → i < length (plain .taken) → MessageShows plain after (takenAt plain i)
+    message-shows : (i : ℕ) → i < length (plain .taken) → MessageShows plain after (messageAt plain i)
     message-shows i h =
         let here = member (plain .taken) i h in
-        let (d, most, order, left) = history-of S plain table R (takenAt plain i) here in
+        let (d, most, order, left) = history-of S plain table R (messageAt plain i) here in
         record {
           delivered = d;
           most = most;
           order = order;
-          rest = λ l. ap waiting (is (takenAt plain i .station) (station-of S plain table R (takenAt plain i) here) .condition) ∙ left l;
+          rest = λ l. ap waiting (is (messageAt plain i .station) (station-of S plain table R (messageAt plain i) here) .condition) ∙ left l;
         }
 
-    claim : Demand3 S begun calls
+    claim : Demand3After S begun calls
     claim =
         record {
           stations = as-many;
@@ -137,7 +137,7 @@ module _ (S : Start) (G : GoodStart S) where
           condition = λ k h. is k h .condition ∙ w .condition k;
           stretch = stretch-shows;
           wire = λ g j gl gh jl jh.
-              ap (λ (r : Row). getD (r .minislots) (j - 1) silent) (E .wire g gl gh)
+              ap (λ (r : WireRow). getD (r .minislots) (j - 1) silent) (E .wire g gl gh)
               ∙ row-at (index S) (length (S .indexes)) (λ j k. askedSender g j k (table .condition k)) 8 1 (j - 1) silent (omega arith)
               ∙ ap (λ (z : ℕ). leaves (index S) (gather (λ k. askedSender g z k (table .condition k)) (length (S .indexes)))) (let v : 1 + (j - 1) ≡ suc (j - 1) = omega arith in v)
               ∙ wire-shows S plain table R g (j - 1);
@@ -163,4 +163,4 @@ module _ (S : Start) (G : GoodStart S) where
 pub demand3 : Demand3Holds
 demand3 before m n indexes e calls =
     let (G, q) = started before m n indexes e in
-    subst (λ (ch : Channel). Demand3 (record { m = m; n = n; indexes = indexes }) ch calls) (sym q) (claim (record { m = m; n = n; indexes = indexes }) G calls)
+    subst (λ (ch : Channel). Demand3After (record { m = m; n = n; indexes = indexes }) ch calls) (sym q) (claim (record { m = m; n = n; indexes = indexes }) G calls)

@@ -23,21 +23,21 @@ use Rattle.rules.specs.declared.StationSlot.{StationSlot}
 use Rattle.rules.specs.declared.SlotAnswer.{SlotAnswer}
 use Rattle.rules.specs.declared.SlotAnswer.the-variants.{Went as WentSlot, Refused as RefusedSlot}
 use Rattle.rules.specs.declared.Places.{Places}
-use Rattle.rules.specs.declared.Row.{Row}
-use Rattle.rules.specs.Lists.{each, eachPair, onlyIf}
+use Rattle.rules.specs.declared.WireRow.{WireRow}
+use Rattle.listlaws.specs.Lists.{each, eachPair, onlyIf}
 use Rattle.rules.specs.Limits.{between, withinLimits}
 use Rattle.rules.specs.Hearing.{wordsOf, countsOf}
 use Rattle.rules.specs.Queueing.{placesAfter, immediateOf, placesOf, passes}
 use Rattle.rules.specs.Turns.{Turn, UrgentTurn, LongTurn, ResolveTurn, OpenTurn, turnOf}
 use Rattle.rules.specs.Listening.{hasRow}
 use Rattle.rules.specs.StationLimits.{Condition, Free, Fresh, Asked, Resolving, Urgent, Long, isTotal, conditionWithin, stationWithin}
-use Rattle.rules.specs.Settling.{standsAlone, standsAfter, placesBefore, feedbackAt, settledBy, settledOf}
 use Rattle.rules.specs.OwnHearing.{hearsItself}
 use Rattle.rules.specs.Requesting.{waitsIn, requests, requested, totalOf}
 use Rattle.rules.specs.Serving.{moved}
-use Rattle.rules.specs.StationCalls.{requestMinislot, requesting, conditionAfter, segmentSent, stationAfter, heardSlotOf, slotOf, refusedSlot}
+use Rattle.rules.specs.Outcome.{outcomeBy, outcomeOf}
+use Rattle.rules.specs.StationCalls.{slotNumberOf, slotOf, refusedSlot}
 use Rattle.rules.specs.Soundness.{otherIndex, indexesDistinct, recordsWithin, tableCounters, soundTable}
-use Rattle.rules.specs.ChannelCalls.{Channel, ChannelResult, blankRow, hasStations, refused, heardRow, slotsOf, requestIn, requestsIn, newRow, slotThrough, channelSlotOf}
+use Rattle.rules.specs.ChannelCalls.{Channel, ChannelResult, blankRow, hasStations, refused, heardRow, feedbackHeard, slotsOf, slotsHeard, requestIn, requestsIn, newRow, slotThrough, outcomeHeard, channelSlotNumberOf, channelSlotOf}
 use Rattle.rules.specs.Calls.{Went}
 use Rattle.rules.specs.SoundMeaning.{stationAt, Sound}
 use Rattle.rules.specs.RowAccount.{RowAccount, RowAccountHolds}
@@ -45,6 +45,10 @@ use Rattle.rules.proofs.SlotStep.{and-both}
 use Rattle.rules.proofs.LimitLaws.{within-limits, station-in}
 use Rattle.rules.proofs.SoundTests.{sound-tests}
 use Rattle.rules.proofs.SoundMeans.{not-eq, sound-says}
+use Rattle.rules.proofs.Settled.{standsAlone, standsAfter, placesBefore, feedbackAt, settledBy, settledOf, requesting, conditionAfter, segmentSent, stationAfter, wentBy, step-is}
+use Rattle.rules.specs.Stepping.{requestMinislot, stepOf}
+use Rattle.rules.proofs.Refusals.{through-only, test-passed}
+use Rattle.rules.proofs.Walking.{row-fits}
 
 -- ---- one station: who requests has a message of a slot or more, and keeps its total
 
@@ -113,47 +117,32 @@ pub record Fair (s : Station) (r : StationSlot) : Type 0 where
   pub index : r .station .index ≡ s .index
   pub sends : Sends (r .answer) (r .station .condition)
 
-fair-if : (s : Station) (b : Bool) (x y : StationSlot) → (b ≡ true → Fair s x) → Fair s y → Fair s (cond b x y)
-fair-if s true x y p q = p refl
-fair-if s false x y p q = q
-
 fair-refused : (s : Station) (n : ℕ) → Fair s (refusedSlot s n)
 fair-refused s n = record { index = refl; sends = tt }
 
 pub slot-fair : (s : Station) (words counts : List ℕ) (pick : ℕ) → Fair s (slotOf s words counts pick)
-unfolding slotOf heardSlotOf stationAfter
-slot-fair s words counts pick =
-    fair-if s (stationWithin s) _ _
-    (λ w.
-    fair-if s (hasRow (s .counters .minislots) words counts) _ _
-    (λ a.
-    fair-if s (between 1 pick (s .counters .minislots)) _ _
-    (λ b.
-    fair-if s (eqb (firstNumber (readings words counts)) 0) _ _
-    (λ c. heard (feedbacks (readings words counts)) w)
-    (fair-refused s (firstNumber (readings words counts))))
-    (fair-refused s 11))
-    (fair-refused s 6))
-    (fair-refused s 18)
+unfolding slotOf slotNumberOf stationAfter
+slot-fair s words counts pick = go (eqb (slotNumberOf s words counts pick) 0) refl
   where
-    through : (row : List Feedback) → stationWithin s ≡ true
-        → Fair s (record { answer = WentSlot (turnOf (placesAfter (s .counters) row)) (requestMinislot (requesting s row) pick) (segmentSent s row); station = stationAfter s row pick })
-    through row w = record { index = refl; sends = λ lo. go (requesting s row) refl lo }
+    row : List Feedback
+    row = feedbacks (readings words counts)
+
+    through : stationWithin s ≡ true → Fair s (wentBy s row pick)
+    through w = record { index = refl; sends = λ lo. asks (requesting s row) refl lo }
       where
-        go : (b : Bool) → requesting s row ≡ b → 1 ≤ requestMinislot b pick → 1 ≤ totalOf (conditionAfter s row pick)
-        go true e lo =
+        asks : (b : Bool) → requesting s row ≡ b → 1 ≤ requestMinislot b pick → 1 ≤ totalOf (conditionAfter s row pick)
+        asks true e lo =
             rw (total-kept (turnOf (placesAfter (s .counters) row)) (placesAfter (s .counters) row .resolution) (s .counters .next) pick (settledOf (s .counters) row (s .condition)) e)
             (settled-total (s .counters) (placesAfter (s .counters) row .resolution) (s .counters .next) (immediateOf (s .counters) row) (placesOf (s .counters)) row (s .condition) (station-in s w .condition) e)
-        go false e lo = absurd (omega arith)
+        asks false e lo = absurd (omega arith)
 
-    heard : (row : List Feedback) → stationWithin s ≡ true → Fair s (heardSlotOf s words row pick)
-    heard row w = go (passes (placesAfter (s .counters) row)) (hearsItself s words row)
-      where
-        go : (a b : Bool)
-            → Fair s (cond a (refusedSlot s 7) (cond b (record { answer = WentSlot (turnOf (placesAfter (s .counters) row)) (requestMinislot (requesting s row) pick) (segmentSent s row); station = stationAfter s row pick }) (refusedSlot s 12)))
-        go true b = fair-refused s 7
-        go false true = through row w
-        go false false = fair-refused s 12
+    go : (b : Bool) → eqb (slotNumberOf s words counts pick) 0 ≡ b
+        → Fair s (cond b (stepOf (outcomeOf (s .counters) row) s pick) (refusedSlot s (slotNumberOf s words counts pick)))
+    go false e = fair-refused s (slotNumberOf s words counts pick)
+    go true e =
+        let (e18, after18) = test-passed (stationWithin s) 18 _ refl (eqb-true (slotNumberOf s words counts pick) 0 e) in
+        let (e6, _) = test-passed (hasRow (s .counters .minislots) words counts) 6 _ refl after18 in
+        subst (Fair s) (sym (step-is s row pick (row-fits s words counts e18 e6))) (through e18)
 
 -- ---- all stations
 
@@ -247,35 +236,16 @@ module _ (ch : Channel) (picks : List ℕ) (e14 : hasStations (ch .stations) ≡
       let (lo, hi) = w .next in
       let n8 = w .groups .1 in
       let t = sound-tests (ch .stations) (ch .wire) e18 in
-      subst (λ (r : Row). RowAccount (slotsOf (wordsOf (heardRow ch)) (countsOf (heardRow ch)) (ch .stations) picks) (r .minislots))
+      subst (λ (r : WireRow). RowAccount (slotsOf (wordsOf (heardRow ch)) (countsOf (heardRow ch)) (ch .stations) picks) (r .minislots))
       (sym (getD-set-same (ch .wire) (tableCounters (ch .stations) .next - 1) (record { minislots = newRow (slotsOf (wordsOf (heardRow ch)) (countsOf (heardRow ch)) (ch .stations) picks) 8 1 }) blankRow (omega (arith, says .size .0))))
       (account (ch .stations) (wordsOf (heardRow ch)) (countsOf (heardRow ch)) picks (t .distinct) (t .within))
 
 pub row-account : RowAccountHolds
-unfolding channelSlotOf
+unfolding channelSlotOf channelSlotNumberOf outcomeBy
 row-account ch picks turn n i s d e =
-    go (hasStations (ch .stations)) refl (soundTable (ch .stations) (ch .wire)) refl (eqb (length picks) (length (ch .stations)))
-    (each (λ (pick : ℕ). between 1 pick (tableCounters (ch .stations) .minislots)) picks)
-    (passes (placesAfter (tableCounters (ch .stations)) (feedbacks (readings (wordsOf (heardRow ch)) (countsOf (heardRow ch)))))) e
-  where
-    slots : List StationSlot
-    slots = slotsOf (wordsOf (heardRow ch)) (countsOf (heardRow ch)) (ch .stations) picks
-
-    result : Bool → Bool → Bool → Bool → Bool → ChannelResult
-    result a b c x y =
-        cond a
-        (cond b
-        (cond c
-        (cond x (cond y (refused ch 7) (slotThrough ch (tableCounters (ch .stations)) (feedbacks (readings (wordsOf (heardRow ch)) (countsOf (heardRow ch)))) slots)) (refused ch 11))
-        (refused ch 17))
-        (refused ch 18))
-        (refused ch 14)
-
-    go : (a : Bool) → hasStations (ch .stations) ≡ a → (b : Bool) → soundTable (ch .stations) (ch .wire) ≡ b → (c x y : Bool) → result a b c x y .answer ≡ Went turn n i s d
-        → RowAccount (slotsOf (wordsOf (heardRow ch)) (countsOf (heardRow ch)) (ch .stations) picks) (getD (result a b c x y .state .wire) (tableCounters (ch .stations) .next - 1) blankRow .minislots)
-    go true ea true eb true true true e = let z : _≡_ {A = ℕ} 0 1 = cc in absurd (omega arith)
-    go true ea true eb true true false e = on-the-wire ch picks ea eb
-    go true ea true eb true false y e = let z : _≡_ {A = ℕ} 0 1 = cc in absurd (omega arith)
-    go true ea true eb false x y e = let z : _≡_ {A = ℕ} 0 1 = cc in absurd (omega arith)
-    go true ea false eb c x y e = let z : _≡_ {A = ℕ} 0 1 = cc in absurd (omega arith)
-    go false ea b eb c x y e = let z : _≡_ {A = ℕ} 0 1 = cc in absurd (omega arith)
+    let none =
+    through-only (λ (r : ChannelResult). r .answer ≡ Went turn n i s d) (channelSlotNumberOf ch picks) (refused ch) _
+    (λ k q. let z : _≡_ {A = ℕ} 0 1 = cc in absurd (omega arith)) e in
+    let (e14, after14) = test-passed (hasStations (ch .stations)) 14 _ refl none in
+    let (e18, _) = test-passed (soundTable (ch .stations) (ch .wire)) 18 _ refl after14 in
+    rw none (on-the-wire ch picks e14 e18)

@@ -1,6 +1,6 @@
 -- A station's record beside the shared table: its slot, from its own counters alone, makes it the record of the table's next state, and sends what the
 -- table says. Assumes nothing.
-use mathlib.Core.Path.{_≡_, refl, ap, _∙_}
+use mathlib.Core.Path.{_≡_, refl, ap, subst, _∙_}
 use mathlib.Core.Bool.{Bool, true, false, cond}
 use mathlib.Core.List.{List, [], _∷_}
 use mathlib.Core.Logic.{_≢_}
@@ -11,9 +11,11 @@ use lib.ListN.{length, getD, set, length-set}
 use lib.Seq.{getD-set-same, getD-set-other}
 use borrow.Author.Tests.{eqb-true, eqb-false}
 use Rattle.minislot.specs.declared.Feedback.{Feedback}
+use Rattle.minislot.specs.declared.Reading.{Reading}
+use Rattle.minislot.specs.declared.Reading.the-variants.{Heard, Refused}
+use Rattle.minislot.specs.Reading.{readingOf}
 use Rattle.minislot.specs.Row.{readings, firstNumber, feedbacks, weight}
 use Rattle.rules.specs.declared.Station.{Station}
-use Rattle.rules.specs.declared.SlotAnswer.the-variants.{Went as WentSlot}
 use Rattle.rules.specs.declared.Places.{Places}
 use Rattle.rules.specs.Limits.{between}
 use Rattle.rules.specs.Queueing.{queuedRow, immediate, placesOf, immediateOf, placesAfter, passes}
@@ -21,14 +23,19 @@ use Rattle.rules.specs.Turns.{turnOf, isOpen}
 use Rattle.rules.specs.Falling.{fallen}
 use Rattle.rules.specs.Listening.{hasRow}
 use Rattle.rules.specs.StationLimits.{Condition, stationWithin}
-use Rattle.rules.specs.Settling.{settledOf}
 use Rattle.rules.specs.OwnHearing.{hearsItself}
 use Rattle.rules.specs.Serving.{moved}
-use Rattle.rules.specs.StationCalls.{requestMinislot, requesting, segmentSent, conditionAfter, stationAfter, heardSlotOf, slotOf}
+use Rattle.rules.specs.StationCalls.{heardSlotNumberOf, slotNumberOf, slotOf}
+use Rattle.rules.specs.Outcome.{outcomeOf}
+use Rattle.rules.specs.Stepping.{stepOf}
 use Rattle.rules.specs.Calls.{Start, index}
 use Rattle.rules.proofs.Clauses.{settle, asks, less}
 use Rattle.rules.proofs.ClauseLaws.{Placed, settle-is, asks-is, falls-is, sends-is, less-is, urgent-falls-is, long-falls-is}
 use Rattle.rules.proofs.Shared.{Table, tablePlaces, tableSuccess, tableCondition, tableWent, tableSends}
+use Rattle.rules.proofs.Settled.{settledOf, segmentSent, conditionAfter, stationAfter, wentBy, step-is}
+use Rattle.rules.proofs.QueueingLaws.{fits-if}
+use Rattle.rules.proofs.LimitLaws.{within-limits, station-in}
+use Rattle.rules.proofs.SlotStep.{and-both}
 
 -- an array by groups, counted from 1
 pub get-set {ℓ} : {A : Type ℓ} (l : List A) (g h : ℕ) (v d : A) → 1 ≤ g → 1 ≤ h → g - 1 < length l → getD (set l (g - 1) v) (h - 1) d ≡ cond (eqb h g) v (getD l (h - 1) d)
@@ -80,10 +87,10 @@ module _ (S : Start) (t : Table) (gl : 1 ≤ t .next) (gh : t .next ≤ 8) (hear
     pub settled-is : settledOf (s .counters) heard (s .condition) ≡ tableSettledBy t heard k
     settled-is = rw (success-is, places-is, a .next, a .condition) (settle-is (tableSuccess t heard) (t .next) (tablePlaces t) heard (t .condition k) w₀)
 
-    pub sent-is : segmentSent s heard ≡ tableSends t heard (tableSuccess t heard) (tableQueued t heard) k
-    sent-is =
+    pub sent-is : Placed (tableSettledBy t heard k) → segmentSent s heard ≡ tableSends t heard (tableSuccess t heard) (tableQueued t heard) k
+    sent-is w₁ =
         rw (queued-is, settled-is, a .next)
-        (sends-is (t .next) (tableQueued t heard .urgent) (tableQueued t heard .long) (tableQueued t heard .resolution) (tableSettledBy t heard k))
+        (sends-is (t .next) (tableQueued t heard .urgent) (tableQueued t heard .long) (tableQueued t heard .resolution) (tableSettledBy t heard k) w₁)
 
     module _ (pick : ℕ → ℕ) (w₁ : Placed (tableSettledBy t heard k)) (w₂ : Placed (asks (tableQueued t heard .resolution) (t .next) (pick k) (tableSettledBy t heard k))) where
       condition-is : conditionAfter s heard (pick k) ≡ tableCondition pick t heard (tableSuccess t heard) (tableQueued t heard) k
@@ -119,10 +126,33 @@ module _ (S : Start) (t : Table) (gl : 1 ≤ t .next) (gh : t .next ≤ 8) (hear
           mark-of : Bool
           mark-of = isOpen (turnOf (tableQueued t heard))
 
--- a station's slot whose tests all pass
-pub slot-passes : (s : Station) (words counts : List ℕ) (row : List Feedback) (pick : ℕ) → stationWithin s ≡ true → hasRow (s .counters .minislots) words counts ≡ true
-    → between 1 pick (s .counters .minislots) ≡ true → firstNumber (readings words counts) ≡ 0 → feedbacks (readings words counts) ≡ row → passes (placesAfter (s .counters) row) ≡ false
-    → hearsItself s words row ≡ true
-    → slotOf s words counts pick ≡ record { answer = WentSlot (turnOf (placesAfter (s .counters) row)) (requestMinislot (requesting s row) pick) (segmentSent s row); station = stationAfter s row pick }
-unfolding slotOf heardSlotOf
-slot-passes s words counts row pick e18 e6 e11 e1 ef e7 e12 = rw (e18, e6, e11, e1, ef, e7, e12)
+-- a row of m minislots or fewer is heard in m or fewer
+pub feedbacks-short : (words counts : List ℕ) → length (feedbacks (readings words counts)) ≤ length words
+unfolding readings feedbacks
+feedbacks-short [] counts = omega arith
+feedbacks-short (w ∷ words) [] = omega arith
+feedbacks-short (w ∷ words) (c ∷ counts) = go (readingOf w c) (feedbacks-short words counts)
+  where
+    go : (r : Reading) → length (feedbacks (readings words counts)) ≤ length words → length (feedbacks (r ∷ readings words counts)) ≤ suc (length words)
+    go (Heard f) h = omega arith
+    go (Refused n) h = omega arith
+
+-- the row of a station within its limits has 8 minislots or fewer
+pub row-fits : (s : Station) (words counts : List ℕ) → stationWithin s ≡ true → hasRow (s .counters .minislots) words counts ≡ true
+    → length (feedbacks (readings words counts)) ≤ 8
+row-fits s words counts e18 e6 =
+    let w = within-limits (s .counters) (station-in s e18 .counters) .minislots .1 in
+    let l = eqb-true (length words) (s .counters .minislots) (and-both _ (eqb (length counts) (s .counters .minislots)) e6 .0) in
+    omega (arith, feedbacks-short words counts)
+
+-- a station's slot whose tests all pass is its step, by its own counters
+module _ (s : Station) (words counts : List ℕ) (row : List Feedback) (pick : ℕ) (e18 : stationWithin s ≡ true)
+    (e6 : hasRow (s .counters .minislots) words counts ≡ true) (e11 : between 1 pick (s .counters .minislots) ≡ true)
+    (e1 : firstNumber (readings words counts) ≡ 0) (ef : feedbacks (readings words counts) ≡ row) (e7 : passes (placesAfter (s .counters) row) ≡ false)
+    (e12 : hearsItself s words row ≡ true) where
+  pub slot-steps : slotOf s words counts pick ≡ stepOf (outcomeOf (s .counters) row) s pick
+  unfolding slotOf slotNumberOf heardSlotNumberOf
+  slot-steps = rw (e18, e6, e11, e1, ef, fits-if (s .counters) row e7, e12)
+
+  pub slot-passes : slotOf s words counts pick ≡ wentBy s row pick
+  slot-passes = slot-steps ∙ step-is s row pick (subst (λ (r : List Feedback). length r ≤ 8) ef (row-fits s words counts e18 e6))

@@ -14,20 +14,22 @@ use Rattle.minislot.specs.Reading.{readingOf}
 use Rattle.minislot.specs.Row.{readings, firstNumber, feedbacks, weight}
 use Rattle.minislot.specs.Together.{together}
 use Rattle.rules.specs.Limits.{groupsWithin, withinLimits}
-use Rattle.rules.specs.Queueing.{queuedRow, passes, immediateOf, placesAfter}
+use Rattle.rules.specs.Queueing.{queuedRow, passes, immediateOf, placesAfter, stepOneOf}
 use Rattle.rules.specs.Turns.{turnOf, UrgentTurn, LongTurn, ResolveTurn, OpenTurn}
 use Rattle.rules.specs.Falling.{fallen}
 use Rattle.rules.specs.StationLimits.{conditionWithin, stationWithin}
-use Rattle.rules.specs.Settling.{settledBy}
 use Rattle.rules.specs.OwnHearing.{hearsItself}
 use Rattle.rules.specs.Requesting.{requests, requested}
 use Rattle.rules.specs.Serving.{sends, moved}
-use Rattle.rules.specs.StationCalls.{noStation, offerOf, stationAfter, heardSlotOf, slotOf}
+use Rattle.rules.specs.StationCalls.{noStation, heardSlotNumberOf, slotNumberOf, slotOf}
 use Rattle.rules.specs.Soundness.{indexesDistinct, recordsWithin, sameCounters, countersShared, urgentSound, longSound, resolutionSound, askedMinislot, wireSound, soundTable}
-use Rattle.rules.specs.ChannelCalls.{Channel, blankWire, channelStartOf, channelOfferOf, heardRow, channelSlotOf, channelAnswers}
+use Rattle.rules.specs.ChannelCalls.{Channel, blankWire, channelStartNumberOf, channelStartOf, channelOfferNumberOf, channelOfferOf, heardRow, channelSlotNumberOf, channelSlotOf, channelAnswers}
 use Rattle.rules.specs.Calls.{Start, Call, Offer, Slot, Answer, Refused, Taken, Went}
 use Rattle.rules.specs.Plain.{plainStart, plainAnswers}
 use Rattle.rules.proofs.Theorem.{demand3}
+use Rattle.rules.specs.Landing.{landings}
+use Rattle.rules.specs.Outcome.{outcomeBy}
+use Rattle.rules.specs.Stepping.{settledIn, actsOf, stepOf}
 
 -- a table of three stations, whatever they hold, started with two minislots, two groups and three indexes
 abbrev table : Channel
@@ -40,7 +42,7 @@ abbrev start : Start
 start = record { m = 2; n = 2; indexes = 7 ∷ 9 ∷ 923 ∷ [] }
 
 goes : channelStartOf table 2 2 indexes .answer ≡ Ready
-unfolding channelStartOf
+unfolding channelStartOf channelStartNumberOf
 goes = refl
 
 -- the picks of the three stations
@@ -77,7 +79,10 @@ plain = refl
 
 -- on the table and the wire: words, readings, soundness and all
 direct : channelAnswers (channelStartOf table 2 2 indexes .state) calls ≡ answers
-unfolding ones onesIn fitsMessage slotsFor ceiling patterns those sixOnes wordOf indexOf placeOf containsOnes readingOf readings firstNumber feedbacks weight together groupsWithin withinLimits queuedRow passes immediateOf placesAfter turnOf fallen conditionWithin stationWithin settledBy hearsItself requests requested sends moved offerOf stationAfter heardSlotOf slotOf indexesDistinct recordsWithin sameCounters countersShared urgentSound longSound resolutionSound askedMinislot wireSound soundTable channelStartOf channelOfferOf heardRow channelSlotOf
+unfolding ones onesIn fitsMessage slotsFor ceiling patterns those sixOnes wordOf indexOf placeOf containsOnes readingOf readings firstNumber feedbacks weight
+    together groupsWithin withinLimits queuedRow passes immediateOf placesAfter stepOneOf turnOf fallen conditionWithin stationWithin landings outcomeBy settledIn actsOf stepOf
+    hearsItself requests requested sends moved heardSlotNumberOf slotNumberOf slotOf indexesDistinct recordsWithin sameCounters countersShared urgentSound longSound
+    resolutionSound askedMinislot wireSound soundTable channelStartNumberOf channelStartOf channelOfferNumberOf channelOfferOf heardRow channelSlotNumberOf channelSlotOf
 direct = refl
 
 -- THE WORKED CHANNELS: the table and the wire, the plain channel, and the one by the other through demand 3

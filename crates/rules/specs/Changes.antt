@@ -66,5 +66,6 @@ pub record Changes (c : Counters) (row : List Feedback) : Type 0 where
   pub long : afterSlot c row .long + longServed (turnIn c row) ≡ c .long + longSlots row
   pub resolution : resolutionOf (afterSlot c row) (c .next) ≡ resolutionOf c (c .next) + collides row - 1
   pub mark : markOf (afterSlot c row) (c .next) ≡ isOpen (turnIn c row)
-  pub others : (g : ℕ) → (g - 1 ≡ c .next - 1 → ⊥) → (resolutionOf (afterSlot c row) g ≡ resolutionOf c g) × (markOf (afterSlot c row) g ≡ markOf c g)
+  pub others : (g : ℕ) → (g - 1 ≡ c .next - 1 → ⊥)
+      → (resolutionOf (afterSlot c row) g ≡ resolutionOf c g) × (markOf (afterSlot c row) g ≡ markOf c g)
   pub next : afterSlot c row .next ≡ following (c .groups) (c .next)

@@ -1,40 +1,41 @@
--- The channel: a table of stations and a wire; its start, its offers and its slots (paper 01, "The channel" and "Operations and their numbers").
--- A refusal leaves table and wire as they were. Assumes nothing.
+-- The channel: a table of stations and a wire; its start, its offers and its slots (paper 01, "The channel" and "Operations and their
+-- numbers"). A refusal leaves table and wire as they were. Assumes nothing.
 use mathlib.Core.Bool.{Bool, _&&_, cond}
 use mathlib.Core.List.{List, [], _∷_, map}
 use Prim.Native.Nat.{ℕ, zero, suc, _+_, _-_}
-use lib.Dec.{leb, ltb, eqb}
+use lib.Dec.{ltb, eqb}
 use lib.ListN.{length, getD, set, take, replicate}
 use Rattle.minislot.specs.declared.Minislot.{Minislot}
 use Rattle.minislot.specs.declared.Feedback.{Feedback}
-use Rattle.minislot.specs.declared.Feedback.the-variants.{Empty, Single, Collide}
 use Rattle.minislot.specs.Row.{readings, feedbacks}
+use Rattle.message.specs.Message.{slotsFor}
 use Rattle.minislot.specs.Together.{Request, carries, silent, together}
-use Rattle.rules.specs.declared.Counters.{Counters}
 use Rattle.rules.specs.declared.Station.{Station}
 use Rattle.rules.specs.declared.StationSlot.{StationSlot}
-use Rattle.rules.specs.declared.StationOffered.{StationOffered}
+use Rattle.rules.specs.declared.Outcome.{Outcome}
+use Rattle.rules.specs.declared.Sent.{Sent}
 use Rattle.rules.specs.declared.SlotAnswer.{SlotAnswer}
 use Rattle.rules.specs.declared.SlotAnswer.the-variants.{Went as WentSlot, Refused as RefusedSlot}
-use Rattle.rules.specs.declared.OfferAnswer.{OfferAnswer}
-use Rattle.rules.specs.declared.OfferAnswer.the-variants.{Taken as TakenOffer, Refused as RefusedOffer}
 use Rattle.rules.specs.declared.StartAnswer.{StartAnswer}
 use Rattle.rules.specs.declared.StartAnswer.the-variants.{Ready, Refused as RefusedStart}
-use Rattle.rules.specs.declared.Row.{Row}
-use Rattle.rules.specs.Lists.{each, eachPair, onlyIf, gatherOf}
+use Rattle.rules.specs.declared.WireRow.{WireRow}
+use Rattle.listlaws.specs.Lists.{each, eachPair, onlyIf, gatherOf}
 use Rattle.rules.specs.Limits.{between}
 use Rattle.rules.specs.Starting.{inRanges}
 use Rattle.rules.specs.Hearing.{wordsOf, countsOf}
-use Rattle.rules.specs.Queueing.{placesAfter, immediateOf, passes}
-use Rattle.rules.specs.Turns.{Turn, UrgentTurn, LongTurn, ResolveTurn, OpenTurn, turnOf}
+use Rattle.rules.specs.Refusing.{unless, byNumber}
+use Rattle.rules.specs.Queueing.{stepOneOf}
+use Rattle.rules.specs.Turns.{Turn, UrgentTurn, LongTurn, ResolveTurn, OpenTurn}
 use Rattle.rules.specs.Requesting.{totalOf}
-use Rattle.rules.specs.StationCalls.{startStation, noStation, offerOf, slotOf}
-use Rattle.rules.specs.Soundness.{differ, soundTable, tableCounters}
+use Rattle.rules.specs.Outcome.{outcomeOf}
+use Rattle.rules.specs.StationCalls.{startStation, noStation, isIndex, withMessage, takingNumberOf, slotOf}
+use Rattle.places.specs.Places.{differ}
+use Rattle.rules.specs.Soundness.{soundTable, tableCounters}
 use Rattle.rules.specs.Calls.{Answer, Refused, Taken, Went, Call, Offer, Slot}
 
 pub record Channel : Type 0 where
   pub stations : List Station
-  pub wire : List Row
+  pub wire : List WireRow
 
 pub record ChannelResult : Type 0 where
   pub state : Channel
@@ -46,10 +47,10 @@ pub record ChannelStarted : Type 0 where
 
 -- ---- starting: 5, 14, 8, 15
 
-abbrev pub blankRow : Row
+abbrev pub blankRow : WireRow
 blankRow = record { minislots = replicate 8 silent }
 
-abbrev pub blankWire : List Row
+abbrev pub blankWire : List WireRow
 blankWire = replicate 8 blankRow
 
 abbrev pub newStations : ℕ → ℕ → List ℕ → List Station
@@ -62,19 +63,22 @@ newChannel m n indexes = record { stations = newStations m n indexes; wire = bla
 abbrev pub hasStations : List Station → Bool
 hasStations stations = between 1 (length stations) 64
 
-abbrev pub isIndex : ℕ → Bool
-isIndex i = leb i 923
+abbrev pub refusedBeginning : Channel → ℕ → ChannelStarted
+refusedBeginning ch n = record { state = ch; answer = RefusedStart n }
 
-abbrev pub refusedStart : Channel → ℕ → ChannelStarted
-refusedStart ch n = record { state = ch; answer = RefusedStart n }
+-- on a table of `count` records
+unfoldable pub channelStartNumberOf : ℕ → ℕ → ℕ → List ℕ → ℕ
+channelStartNumberOf count m n indexes =
+    unless (inRanges m n) 5
+    (unless (between 1 count 64 && eqb (length indexes) count) 14
+    (unless (each isIndex indexes) 8
+    (unless (eachPair differ indexes) 15
+    0)))
 
 unfoldable pub channelStartOf : Channel → ℕ → ℕ → List ℕ → ChannelStarted
 channelStartOf ch m n indexes =
-    cond (inRanges m n)
-    (cond (hasStations (ch .stations) && eqb (length indexes) (length (ch .stations)))
-    (cond (each isIndex indexes) (cond (eachPair differ indexes) (record { state = newChannel m n indexes; answer = Ready }) (refusedStart ch 15)) (refusedStart ch 8))
-    (refusedStart ch 14))
-    (refusedStart ch 5)
+    byNumber (channelStartNumberOf (length (ch .stations)) m n indexes) (refusedBeginning ch)
+    (record { state = newChannel m n indexes; answer = Ready })
 
 -- ---- offering: 14, 18, 16, 9, 10
 
@@ -86,29 +90,41 @@ abbrev pub positionOf : ℕ → List Station → ℕ
 positionOf index [] = 0
 positionOf index (s ∷ l) = cond (eqb (s .index) index) 0 (suc (positionOf index l))
 
-abbrev pub offerAnswer : OfferAnswer → Answer
-offerAnswer (TakenOffer t) = Taken t
-offerAnswer (RefusedOffer n) = Refused n
+-- the station of an index, and whether there is one
+abbrev pub hasIndex : Channel → ℕ → Bool
+hasIndex ch index = ltb (positionOf index (ch .stations)) (length (ch .stations))
 
--- station k takes the offer or not
-abbrev pub offeredAt : Channel → ℕ → StationOffered → ChannelResult
-offeredAt ch k r = record { state = record { stations = set (ch .stations) k (r .station); wire = ch .wire }; answer = offerAnswer (r .answer) }
+abbrev pub stationOf : Channel → ℕ → Station
+stationOf ch index = getD (ch .stations) (positionOf index (ch .stations)) noStation
+
+-- station k takes a message of this many bytes
+abbrev pub takenAt : Channel → ℕ → ℕ → ChannelResult
+takenAt ch k bytes =
+    record {
+      state = record { stations = set (ch .stations) k (withMessage (getD (ch .stations) k noStation) bytes); wire = ch .wire };
+      answer = Taken (slotsFor bytes);
+    }
+
+unfoldable pub channelOfferNumberOf : Channel → ℕ → ℕ → ℕ
+channelOfferNumberOf ch index bytes =
+    unless (hasStations (ch .stations)) 14
+    (unless (soundTable (ch .stations) (ch .wire)) 18
+    (unless (hasIndex ch index) 16
+    (takingNumberOf (stationOf ch index .condition) bytes)))
 
 unfoldable pub channelOfferOf : Channel → ℕ → ℕ → ChannelResult
 channelOfferOf ch index bytes =
-    cond (hasStations (ch .stations))
-    (cond (soundTable (ch .stations) (ch .wire))
-    (cond (ltb (positionOf index (ch .stations)) (length (ch .stations)))
-    (offeredAt ch (positionOf index (ch .stations)) (offerOf (getD (ch .stations) (positionOf index (ch .stations)) noStation) bytes))
-    (refused ch 16))
-    (refused ch 18))
-    (refused ch 14)
+    byNumber (channelOfferNumberOf ch index bytes) (refused ch) (takenAt ch (positionOf index (ch .stations)) bytes)
 
 -- ---- a slot: 14, 18, 17, 11, 7
 
 -- the row that the next group's slot hears: the first m minislots of the group's row on the wire
 unfoldable pub heardRow : Channel → List Minislot
 heardRow ch = take (tableCounters (ch .stations) .minislots) (getD (ch .wire) (tableCounters (ch .stations) .next - 1) blankRow .minislots)
+
+-- what it reads as
+abbrev pub feedbackHeard : Channel → List Feedback
+feedbackHeard ch = feedbacks (readings (wordsOf (heardRow ch)) (countsOf (heardRow ch)))
 
 -- each station's slot, with its pick
 abbrev pub slotsOf : List ℕ → List ℕ → List Station → List ℕ → List StationSlot
@@ -118,7 +134,8 @@ slotsOf words counts (s ∷ l) (pick ∷ picks) = slotOf s words counts pick ∷
 
 -- the request that a station's slot leaves in minislot j
 abbrev pub requestIn : ℕ → StationSlot → SlotAnswer → List Request
-requestIn j r (WentSlot turn minislot segment) = onlyIf (eqb minislot j) (record { index = r .station .index; total = totalOf (r .station .condition) } ∷ [])
+requestIn j r (WentSlot turn minislot segment) =
+    onlyIf (eqb minislot j) (record { index = r .station .index; total = totalOf (r .station .condition) } ∷ [])
 requestIn j r (RefusedSlot n) = []
 
 abbrev pub requestsIn : ℕ → List StationSlot → List Request
@@ -152,54 +169,58 @@ loneSegment [] = 0
 loneSegment (x ∷ []) = x .segment
 loneSegment (x ∷ y ∷ l) = 0
 
--- delivered: data sent on an open turn, when its row is heard and was immediate success; data sent on an urgent or long turn, when sent
-abbrev pub successIn : Bool → Feedback → ℕ
-successIn b Empty = 0
-successIn b (Single i c) = cond (b && eqb c 1) 1 0
-successIn b Collide = 0
-
-abbrev pub successes : Bool → List Feedback → ℕ
-successes b [] = 0
-successes b (f ∷ row) = successIn b f + successes b row
-
+-- delivered when sent: data sent on an urgent or long turn
 abbrev pub deliveredNow : Turn → ℕ → ℕ
 deliveredNow UrgentTurn senders = senders
 deliveredNow LongTurn senders = senders
 deliveredNow ResolveTurn senders = 0
 deliveredNow OpenTurn senders = 0
 
--- a slot that goes through: c is the table's counters, row the feedback heard, results the stations' slots
-abbrev pub slotAnswer : Counters → List Feedback → List StationSlot → Answer
-slotAnswer c row results =
-    Went (turnOf (placesAfter c row)) (length (dataSent results)) (loneIndex (dataSent results)) (loneSegment (dataSent results))
-    (successes (immediateOf c row) row + deliveredNow (turnOf (placesAfter c row)) (length (dataSent results)))
+-- the stations' slots on the row that the next group's slot hears
+abbrev pub slotsHeard : Channel → List ℕ → List StationSlot
+slotsHeard ch picks = slotsOf (wordsOf (heardRow ch)) (countsOf (heardRow ch)) (ch .stations) picks
 
-abbrev pub slotThrough : Channel → Counters → List Feedback → List StationSlot → ChannelResult
-slotThrough ch c row results =
+-- the outcome by the counters that all stations share
+abbrev pub outcomeHeard : Channel → Outcome
+outcomeHeard ch = outcomeOf (tableCounters (ch .stations)) (feedbackHeard ch)
+
+-- what they send
+abbrev pub sentOf : List StationSlot → Sent
+sentOf results =
     record {
-      state =
-          record {
-            stations = map (λ (r : StationSlot). r .station) results;
-            wire = set (ch .wire) (c .next - 1) (record { minislots = newRow results 8 1 });
-          };
-      answer = slotAnswer c row results;
+      minislots = newRow results 8 1;
+      senders = length (dataSent results);
+      index = loneIndex (dataSent results);
+      segment = loneSegment (dataSent results);
     }
 
-abbrev pub slotHeard : Channel → List Minislot → List ℕ → ChannelResult
-slotHeard ch heard picks =
-    let row = feedbacks (readings (wordsOf heard) (countsOf heard)) in
-    cond (passes (placesAfter (tableCounters (ch .stations)) row)) (refused ch 7)
-    (slotThrough ch (tableCounters (ch .stations)) row (slotsOf (wordsOf heard) (countsOf heard) (ch .stations) picks))
+-- a slot that goes through: by its outcome and what is sent
+abbrev pub slotAnswer : Outcome → Sent → Answer
+slotAnswer o sent =
+    Went (o .turn) (sent .senders) (sent .index) (sent .segment) (o .delivered + deliveredNow (o .turn) (sent .senders))
+
+abbrev pub wireAfter : List WireRow → Outcome → Sent → List WireRow
+wireAfter wire o sent = set wire (o .group - 1) (record { minislots = sent .minislots })
+
+abbrev pub slotThrough : Channel → Outcome → List StationSlot → ChannelResult
+slotThrough ch o results =
+    record {
+      state = record { stations = map (λ (r : StationSlot). r .station) results; wire = wireAfter (ch .wire) o (sentOf results) };
+      answer = slotAnswer o (sentOf results);
+    }
+
+unfoldable pub channelSlotNumberOf : Channel → List ℕ → ℕ
+channelSlotNumberOf ch picks =
+    unless (hasStations (ch .stations)) 14
+    (unless (soundTable (ch .stations) (ch .wire)) 18
+    (unless (eqb (length picks) (length (ch .stations))) 17
+    (unless (each (λ (pick : ℕ). between 1 pick (tableCounters (ch .stations) .minislots)) picks) 11
+    (unless (stepOneOf (tableCounters (ch .stations)) (feedbackHeard ch) .fits) 7
+    0))))
 
 unfoldable pub channelSlotOf : Channel → List ℕ → ChannelResult
 channelSlotOf ch picks =
-    cond (hasStations (ch .stations))
-    (cond (soundTable (ch .stations) (ch .wire))
-    (cond (eqb (length picks) (length (ch .stations)))
-    (cond (each (λ (pick : ℕ). between 1 pick (tableCounters (ch .stations) .minislots)) picks) (slotHeard ch (heardRow ch) picks) (refused ch 11))
-    (refused ch 17))
-    (refused ch 18))
-    (refused ch 14)
+    byNumber (channelSlotNumberOf ch picks) (refused ch) (slotThrough ch (outcomeHeard ch) (slotsHeard ch picks))
 
 -- ---- a call, and lists of calls
 

@@ -1,6 +1,6 @@
--- DEMAND 3 (paper 01, "Demand 3's list" and "The channel"): one claim over every list of calls on one channel from a start that goes through, refused calls
--- included, any arguments at all. Each field is a sentence of the paper. `ch` is the channel after the list, `p` the plain channel after it.
--- Assumes nothing.
+-- DEMAND 3 (paper 01, "Demand 3's list" and "The channel"): one claim over every list of calls on one channel from a start that goes
+-- through, refused calls included, any arguments at all. Each field is a sentence of the paper. `ch` is the channel after the list, `p` the
+-- plain channel after it. Assumes nothing.
 use mathlib.Core.Path.{_≡_}
 use mathlib.Core.Bool.{Bool, true, false}
 use mathlib.Core.List.{List, [], _∷_, map}
@@ -13,7 +13,7 @@ use Rattle.minislot.specs.Row.{readings, feedbacks}
 use Rattle.rules.specs.declared.Places.{Places}
 use Rattle.rules.specs.declared.Station.{Station}
 use Rattle.rules.specs.declared.StartAnswer.the-variants.{Ready}
-use Rattle.rules.specs.Lists.{sumOf, countOf}
+use Rattle.listlaws.specs.Lists.{sumOf, countOf}
 use Rattle.rules.specs.Hearing.{wordsOf, countsOf}
 use Rattle.rules.specs.Queueing.{placesAfter}
 use Rattle.rules.specs.Turns.{Turn}
@@ -22,7 +22,8 @@ use Rattle.rules.specs.OwnHearing.{hearsItself}
 use Rattle.rules.specs.Serving.{waiting}
 use Rattle.rules.specs.Soundness.{tableCounters}
 use Rattle.rules.specs.SoundMeaning.{stationAt, Sound}
-use Rattle.rules.specs.ChannelCalls.{Channel, blankRow, channelStartOf, heardRow, channelCall, channelAfter, channelAnswers}
+use Rattle.rules.specs.ChannelCalls.{Channel, blankRow, channelStartOf, heardRow}
+use Rattle.rules.specs.ChannelCalls.{feedbackHeard, channelCall, channelAfter, channelAnswers}
 use Rattle.rules.specs.Calls.{Start, index, Call, Offer, Slot, Answer, Refused, Taken, Went}
 use Rattle.rules.specs.Messages.{Message, Segment, segmentsFrom, deliveredFor}
 use Rattle.rules.specs.Plain.{Plain, plainStart, plainAfter, plainAnswers, slotSum}
@@ -42,11 +43,11 @@ askingAt p g j = getD (p .group g .asking) (j - 1) []
 abbrev pub noMessage : Message
 noMessage = record { serial = 0; station = 0; slots = 0 }
 
-abbrev pub longAt : Plain → ℕ → Segment
-longAt p i = getD (p .long) (i - 1) (record { message = noMessage; number = 0 })
+abbrev pub segmentAt : Plain → ℕ → Segment
+segmentAt p i = getD (p .long) (i - 1) (record { message = noMessage; number = 0 })
 
-abbrev pub takenAt : Plain → ℕ → Message
-takenAt p i = getD (p .taken) i noMessage
+abbrev pub messageAt : Plain → ℕ → Message
+messageAt p i = getD (p .taken) i noMessage
 
 -- refused with number n
 abbrev pub isRefusal : ℕ → Answer → Bool
@@ -65,10 +66,7 @@ deliveredIn (Refused x) = 0
 deliveredIn (Taken t) = 0
 deliveredIn (Went turn senders index segment delivered) = delivered
 
--- what the next slot hears, and the lengths of the queues once that row is counted
-abbrev pub feedbackHeard : Channel → List Feedback
-feedbackHeard ch = feedbacks (readings (wordsOf (heardRow ch)) (countsOf (heardRow ch)))
-
+-- the lengths of the queues once the row that the next slot hears is counted
 abbrev pub countedPlaces : Channel → Places
 countedPlaces ch = placesAfter (tableCounters (ch .stations)) (feedbackHeard ch)
 
@@ -83,7 +81,9 @@ abbrev pub SenderRule : Channel → List Call → Type 0
 SenderRule ch [] = Unit {0}
 SenderRule ch (Offer x bytes ∷ l) = SenderRule (channelCall ch (Offer x bytes) .state) l
 SenderRule ch (Slot picks ∷ l) =
-    ((turn : Turn) (senders i s d : ℕ) → channelCall ch (Slot picks) .answer ≡ Went turn senders i s d → SendersAre (countedPlaces ch) senders) × SenderRule (channelCall ch (Slot picks) .state) l
+    ((turn : Turn) (senders i s d : ℕ) → channelCall ch (Slot picks) .answer ≡ Went turn senders i s d
+    → SendersAre (countedPlaces ch) senders)
+    × SenderRule (channelCall ch (Slot picks) .state) l
 
 -- a station's counters are the lengths of the plain queues, its Open marks and next group the plain ones
 pub record CountersShow (S : Start) (p : Plain) (s : Station) : Type 0 where
@@ -104,22 +104,23 @@ pub record MessageShows (p : Plain) (ch : Channel) (m : Message) : Type 0 where
 
 -- ---- THE CLAIM
 
-pub record Demand3 (S : Start) (begun : Channel) (calls : List Call) : Type 0 where
+pub record Demand3 (S : Start) (begun : Channel) (calls : List Call) (ch : Channel) (p : Plain) : Type 0 where
   -- the table has the start's stations: station k has its k-th index
-  pub stations : length (channelAfter begun calls .stations) ≡ length (S .indexes)
-  pub indexes : (k : ℕ) → k < length (S .indexes) → stationAt (channelAfter begun calls .stations) k .index ≡ index S k
+  pub stations : length (ch .stations) ≡ length (S .indexes)
+  pub indexes : (k : ℕ) → k < length (S .indexes) → stationAt (ch .stations) k .index ≡ index S k
   -- each station's counters are the lengths of the plain queues, its Open marks and next group the plain ones
-  pub counters : (k : ℕ) → k < length (S .indexes) → CountersShow S (plainAfter S (plainStart S) calls) (stationAt (channelAfter begun calls .stations) k)
+  pub counters : (k : ℕ) → k < length (S .indexes) → CountersShow S p (stationAt (ch .stations) k)
   -- so all stations have equal counters
-  pub equal : (i k : ℕ) → i < length (S .indexes) → k < length (S .indexes) → stationAt (channelAfter begun calls .stations) i .counters ≡ stationAt (channelAfter begun calls .stations) k .counters
+  pub equal : (i k : ℕ) → i < length (S .indexes) → k < length (S .indexes)
+      → stationAt (ch .stations) i .counters ≡ stationAt (ch .stations) k .counters
   -- each station's condition is its message's: fresh, asked, or its position in its queue; free if none waits
-  pub condition : (k : ℕ) → k < length (S .indexes) → stationAt (channelAfter begun calls .stations) k .condition ≡ conditionOf S (plainAfter S (plainStart S) calls) k
+  pub condition : (k : ℕ) → k < length (S .indexes) → stationAt (ch .stations) k .condition ≡ conditionOf S p k
   -- a stretch: its segments there, one by one
-  pub stretch : (k f l t i : ℕ) → k < length (S .indexes) → stationAt (channelAfter begun calls .stations) k .condition ≡ Long f l t → i < l
-      → (longAt (plainAfter S (plainStart S) calls) (f + i) .message .station ≡ k) × (longAt (plainAfter S (plainStart S) calls) (f + i) .number ≡ t - l + 1 + i)
+  pub stretch : (k f l t i : ℕ) → k < length (S .indexes) → stationAt (ch .stations) k .condition ≡ Long f l t → i < l
+      → (segmentAt p (f + i) .message .station ≡ k) × (segmentAt p (f + i) .number ≡ t - l + 1 + i)
   -- each wire minislot is the OR over the messages asking there
   pub wire : (g j : ℕ) → 1 ≤ g → g ≤ 8 → 1 ≤ j → j ≤ 8
-      → getD (getD (channelAfter begun calls .wire) (g - 1) blankRow .minislots) (j - 1) silent ≡ together (map carries (map (requestOf S) (askingAt (plainAfter S (plainStart S) calls) g j)))
+      → getD (getD (ch .wire) (g - 1) blankRow .minislots) (j - 1) silent ≡ together (map carries (map (requestOf S) (askingAt p g j)))
   -- each answer is the plain channel's
   pub answers : channelAnswers begun calls ≡ plainAnswers S (plainStart S) calls
   -- 14 and 18 never come, nor does 12
@@ -127,24 +128,31 @@ pub record Demand3 (S : Start) (begun : Channel) (calls : List Call) : Type 0 wh
   pub never18 : countOf (isRefusal 18) (channelAnswers begun calls) ≡ 0
   pub never12 : countOf (isRefusal 12) (channelAnswers begun calls) ≡ 0
   -- for in the next slot too each station hears itself as it must
-  pub hears : (k : ℕ) → k < length (S .indexes) → hearsItself (stationAt (channelAfter begun calls .stations) k) (wordsOf (heardRow (channelAfter begun calls))) (feedbackHeard (channelAfter begun calls)) ≡ true
-  -- every urgent place has one station; the long queue is divided without gap or overlap; every place in a resolution queue has two stations or more
-  pub sound : Sound (channelAfter begun calls .stations) (channelAfter begun calls .wire)
-  -- of each slot that went through: outside open access exactly one sender if either transmission queue holds a place once its row is counted, else none
+  pub hears : (k : ℕ) → k < length (S .indexes)
+      → hearsItself (stationAt (ch .stations) k) (wordsOf (heardRow ch)) (feedbackHeard ch) ≡ true
+  -- every urgent place has one station; the long queue is divided without gap or overlap; every place in a resolution queue has two
+  -- stations or more
+  pub sound : Sound (ch .stations) (ch .wire)
+  -- of each slot that went through: outside open access exactly one sender if either transmission queue holds a place once its row is
+  -- counted, else none
   pub senders : SenderRule begun calls
   -- every message taken is told apart from every other
-  pub apart : (i : ℕ) → i < length (plainAfter S (plainStart S) calls .taken) → takenAt (plainAfter S (plainStart S) calls) i .serial ≡ i
+  pub apart : (i : ℕ) → i < length (p .taken) → messageAt p i .serial ≡ i
   -- of each message taken: its first slots delivered, each once and in order, the rest wait in its station
-  pub messages : (i : ℕ) → i < length (plainAfter S (plainStart S) calls .taken)
-      → MessageShows (plainAfter S (plainStart S) calls) (channelAfter begun calls) (takenAt (plainAfter S (plainStart S) calls) i)
+  pub messages : (i : ℕ) → i < length (p .taken)
+      → MessageShows p ch (messageAt p i)
   -- in total taken = delivered + waiting: delivered counted from the history, waiting from the stations' conditions
-  pub ledger : slotSum (plainAfter S (plainStart S) calls .taken)
-      ≡ length (plainAfter S (plainStart S) calls .history) + sumOf (λ (s : Station). waiting (s .condition)) (channelAfter begun calls .stations)
+  pub ledger : slotSum (p .taken)
+      ≡ length (p .history) + sumOf (λ (s : Station). waiting (s .condition)) (ch .stations)
   -- and the answers' own sums are these: all that the offers took, all that the slots delivered
-  pub taken : sumOf takenIn (channelAnswers begun calls) ≡ slotSum (plainAfter S (plainStart S) calls .taken)
-  pub delivered : sumOf deliveredIn (channelAnswers begun calls) ≡ length (plainAfter S (plainStart S) calls .history)
+  pub taken : sumOf takenIn (channelAnswers begun calls) ≡ slotSum (p .taken)
+  pub delivered : sumOf deliveredIn (channelAnswers begun calls) ≡ length (p .history)
+
+-- after a list of calls: of the channel and the plain channel that it leaves
+abbrev pub Demand3After : Start → Channel → List Call → Type 0
+Demand3After S begun calls = Demand3 S begun calls (channelAfter begun calls) (plainAfter S (plainStart S) calls)
 
 -- for every channel before, every start that goes through, every list of calls
 abbrev pub Demand3Holds : Type 0
 Demand3Holds = (before : Channel) (m n : ℕ) (indexes : List ℕ) → channelStartOf before m n indexes .answer ≡ Ready → (calls : List Call)
-    → Demand3 (record { m = m; n = n; indexes = indexes }) (channelStartOf before m n indexes .state) calls
+    → Demand3After (record { m = m; n = n; indexes = indexes }) (channelStartOf before m n indexes .state) calls

@@ -1,4 +1,5 @@
--- The edges that the paper marks P, as one list: a line of the paper to a field. `edges` of proofs/EdgesHold.antt proves them. Assumes nothing.
+-- The edges that the paper marks P, as one list: a line of the paper to a field. `edges` of proofs/EdgesHold.antt proves them. Assumes
+-- nothing.
 use mathlib.Core.Path.{_≡_}
 use mathlib.Core.List.{List, [], _∷_}
 use Prim.Native.Nat.{ℕ, _-_}
@@ -31,7 +32,12 @@ pub record Line : Type 0 where
 
 abbrev pub lineOf : ℕ → Listened → Line
 lineOf group r =
-    record { answer = r .answer; urgent = r .counters .urgent; long = r .counters .long; resolution = getD (r .counters .resolution) (group - 1) 0 }
+    record {
+      answer = r .answer;
+      urgent = r .counters .urgent;
+      long = r .counters .long;
+      resolution = getD (r .counters .resolution) (group - 1) 0;
+    }
 
 abbrev pub linesOf : Counters → List Words → List Line
 linesOf c [] = []

@@ -1,6 +1,7 @@
--- The rules of paper 01 as definitions.
--- The counters' rules: Limits, Starting, Hearing, Queueing (step 1), Turns (step 2), Falling (steps 4 and 5), Listening.
--- The station's rules: StationLimits, Settling (step 1), OwnHearing (refusal 12), Requesting (step 3), Serving (steps 4 and 5), StationCalls.
+-- The rules of paper 01 as definitions. The order of checking: Refusing. The counters' rules: Limits, Starting, Hearing, Queueing (step 1),
+-- Turns (step 2), Falling (steps 4 and 5), Listening. The station's rules: StationLimits, Landing (step 1), OwnHearing (refusal 12),
+-- Requesting (step 3), Serving (steps 4 and 5), Outcome and Stepping (a slot's outcome and one station's step by it), StationCalls.
+pub mod Refusing
 pub mod Limits
 pub mod Starting
 pub mod Hearing
@@ -9,12 +10,13 @@ pub mod Turns
 pub mod Falling
 pub mod Listening
 pub mod StationLimits
-pub mod Settling
+pub mod Landing
 pub mod OwnHearing
 pub mod Requesting
 pub mod Serving
+pub mod Outcome
+pub mod Stepping
 pub mod StationCalls
-pub mod Lists
 pub mod Soundness
 pub mod Calls
 pub mod Numbers

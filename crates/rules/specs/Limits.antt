@@ -1,4 +1,5 @@
--- A record of counters within its limits (paper 01, "Counters", and the counters' part of "A record is within its limits"). Assumes nothing.
+-- A record of counters within its limits (paper 01, "Counters", and the counters' part of "A record is within its limits"). Assumes
+-- nothing.
 use mathlib.Core.Bool.{Bool, true, _&&_, cond}
 use Prim.Native.Nat.{ℕ}
 use lib.Dec.{leb, ltb, eqb}
@@ -31,10 +32,14 @@ openedWithin n i b = cond (ltb i n) true b
 -- the two arrays
 unfoldable pub groupsWithin : Counters → Bool
 groupsWithin c =
-    eqb (length (c .resolution)) 8 && eqb (length (c .opened)) 8 && everyFrom (resolutionWithin (c .groups)) 0 (c .resolution) && everyFrom (openedWithin (c .groups)) 0 (c .opened)
+    eqb (length (c .resolution)) 8 && eqb (length (c .opened)) 8 && everyFrom (resolutionWithin (c .groups)) 0 (c .resolution)
+    && everyFrom (openedWithin (c .groups)) 0 (c .opened)
+
+-- the next group, H, N and the arrays
+abbrev pub countsWithin : Counters → Bool
+countsWithin c =
+    between 1 (c .next) (c .groups) && leb (c .urgent) urgentLimit && leb (c .long) longLimit && groupsWithin c
 
 -- THE LIMITS of a record of counters (refusal 18 for a listener)
 unfoldable pub withinLimits : Counters → Bool
-unfolding groupsWithin
-withinLimits c =
-    between 2 (c .minislots) 8 && between 1 (c .groups) 8 && between 1 (c .next) (c .groups) && leb (c .urgent) urgentLimit && leb (c .long) longLimit && groupsWithin c
+withinLimits c = between 2 (c .minislots) 8 && between 1 (c .groups) 8 && countsWithin c

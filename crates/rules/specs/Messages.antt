@@ -1,8 +1,9 @@
--- Messages and their segments, as the plain channel keeps them: every message taken is told apart from every other for ever. Assumes nothing.
+-- Messages and their segments, as the plain channel keeps them: every message taken is told apart from every other for ever. Assumes
+-- nothing.
 use mathlib.Core.List.{List, [], _∷_}
 use Prim.Native.Nat.{ℕ, zero, suc}
 use lib.Dec.{eqb}
-use Rattle.rules.specs.Lists.{keepIf}
+use Rattle.listlaws.specs.Lists.{keepIf}
 
 -- one message taken: a serial of its own, the station that holds it (its position in the table, from 0), its slots
 pub record Message : Type 0 where

@@ -1,5 +1,5 @@
--- The paper's number and values of each answer, by its cases (paper 01, "Operations and their numbers"). Which of them a call answers: specs/Answered.
--- Assumes nothing.
+-- The paper's number and values of each answer, by its cases (paper 01, "Operations and their numbers"). Which of them a call answers:
+-- specs/Answered. Assumes nothing.
 use mathlib.Core.List.{List, [], _∷_}
 use Prim.Native.Nat.{ℕ}
 use Rattle.rules.specs.declared.StartAnswer.{StartAnswer}
@@ -13,8 +13,8 @@ use Rattle.rules.specs.declared.SlotAnswer.the-variants.{Went as WentSlo
 use Rattle.rules.specs.Calls.{Answer, Refused, Taken, Went}
 use Rattle.rules.specs.Turns.{Turn}
 
--- an answer as the paper gives it: the number of the refusal, 0 where the call went through; then the turn, if it answers one, and its other values in
--- the paper's order
+-- an answer as the paper gives it: the number of the refusal, 0 where the call went through; then the turn, if it answers one, and its
+-- other values in the paper's order
 pub record Told : Type 0 where
   pub number : ℕ
   pub turn : List Turn
@@ -48,8 +48,8 @@ abbrev pub slotTold : SlotAnswer → Told
 slotTold (WentSlot turn minislot segment) = went (turn ∷ []) (minislot ∷ segment ∷ [])
 slotTold (RefusedSlot n) = refusal n
 
--- an offer on a channel: the slot total; a channel's slot: the turn, then the number of data senders, the index and segment of a lone sender, and the
--- slots delivered
+-- an offer on a channel: the slot total; a channel's slot: the turn, then the number of data senders, the index and segment of a lone
+-- sender, and the slots delivered
 abbrev pub callTold : Answer → Told
 callTold (Refused n) = refusal n
 callTold (Taken total) = went [] (total ∷ [])

@@ -1,5 +1,6 @@
--- What a station must hear of itself (paper 01, "The box": "An asked box, when its group returns, must hear in its minislot a Single of its own index and
--- total, or a Collide containing all its ones. A box must hear its own index as Single nowhere else"; refusal 12). Assumes nothing.
+-- What a station must hear of itself (paper 01, "The box": "An asked box, when its group returns, must hear in its minislot a Single of its
+-- own index and total, or a Collide containing all its ones. A box must hear its own index as Single nowhere else"; refusal 12). Assumes
+-- nothing.
 use mathlib.Core.Bool.{Bool, true, false, not, _&&_, cond}
 use mathlib.Core.List.{List, [], _∷_}
 use Prim.Native.Nat.{ℕ, suc}

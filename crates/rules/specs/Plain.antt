@@ -1,5 +1,5 @@
--- THE PLAIN CHANNEL (paper 01, "The plain channel"): queues of messages and of segments, fed the start's m, n and indexes and each call's arguments, nothing
--- from table or wire. Assumes nothing.
+-- THE PLAIN CHANNEL (paper 01, "The plain channel"): queues of messages and of segments, fed the start's m, n and indexes and each call's
+-- arguments, nothing from table or wire. Assumes nothing.
 use mathlib.Core.Bool.{Bool, true, false, not, _&&_, cond}
 use mathlib.Core.List.{List, [], _∷_, _++_, map}
 use mathlib.Core.Option.{Option, none, some}
@@ -7,7 +7,7 @@ use Prim.Native.Nat.{ℕ, zero, suc, _+_, _-_}
 use lib.Dec.{leb, ltb, eqb}
 use lib.ListN.{length, getD}
 use Rattle.message.specs.Message.{fitsMessage, slotsFor}
-use Rattle.rules.specs.Lists.{keepIf}
+use Rattle.listlaws.specs.Lists.{keepIf}
 use Rattle.rules.specs.Messages.{Message, Segment, segment, segmentsFrom, of, deliveredOf}
 use Rattle.rules.specs.Turns.{Turn, UrgentTurn, LongTurn, ResolveTurn, OpenTurn}
 use Rattle.rules.specs.Calls.{Start, index, Answer, Refused, Taken, Went, Call, Offer, Slot}
@@ -20,7 +20,8 @@ pub record Group : Type 0 where
   pub asking : List (List Message)
   pub resolution : List (List Message)
 
--- fresh messages, an urgent queue of messages, a long queue of segments, the next group, the groups; all messages taken; the history of deliveries
+-- fresh messages, an urgent queue of messages, a long queue of segments, the next group, the groups; all messages taken; the history of
+-- deliveries
 pub record Plain : Type 0 where
   pub fresh : List Message
   pub urgent : List Message
@@ -53,18 +54,21 @@ plainWeight ((m ∷ n ∷ l) ∷ row) = 2 + plainWeight row
 abbrev pub plainSuccess : Group → Bool
 plainSuccess G = G .opened && eqb (plainWeight (G .asking)) 1
 
--- a lone message: whether success is immediate, whether it has one slot. One slot: delivered on immediate success, else it joins the urgent queue;
--- a longer one's segments join the long queue in order
+-- a lone message: whether success is immediate, whether it has one slot. One slot: delivered on immediate success, else it joins the urgent
+-- queue; a longer one's segments join the long queue in order
 abbrev pub joinAlone : Bool → Bool → Message → Queues → Queues
-joinAlone true true m q = record { urgent = q .urgent; long = q .long; resolution = q .resolution; history = q .history ++ (segment m 1 ∷ []) }
+joinAlone true true m q =
+    record { urgent = q .urgent; long = q .long; resolution = q .resolution; history = q .history ++ (segment m 1 ∷ []) }
 joinAlone false true m q = record { urgent = q .urgent ++ (m ∷ []); long = q .long; resolution = q .resolution; history = q .history }
-joinAlone b false m q = record { urgent = q .urgent; long = q .long ++ segmentsFrom m (m .slots) 1; resolution = q .resolution; history = q .history }
+joinAlone b false m q =
+    record { urgent = q .urgent; long = q .long ++ segmentsFrom m (m .slots) 1; resolution = q .resolution; history = q .history }
 
 -- one minislot: a Collide's messages join the resolution queue as one place
 abbrev pub joinMinislot : Bool → List Message → Queues → Queues
 joinMinislot b [] q = q
 joinMinislot b (m ∷ []) q = joinAlone b (eqb (m .slots) 1) m q
-joinMinislot b (m ∷ n ∷ l) q = record { urgent = q .urgent; long = q .long; resolution = q .resolution ++ ((m ∷ n ∷ l) ∷ []); history = q .history }
+joinMinislot b (m ∷ n ∷ l) q =
+    record { urgent = q .urgent; long = q .long; resolution = q .resolution ++ ((m ∷ n ∷ l) ∷ []); history = q .history }
 
 abbrev pub joinRow : Bool → List (List Message) → Queues → Queues
 joinRow b [] q = q
@@ -187,10 +191,15 @@ grown before after = length after - length before
 abbrev pub plainAnswer : Start → Plain → Plain → Queues → Answer
 plainAnswer S p p′ q =
     let x = sent (q .urgent) (q .long) (q .resolution) (p .fresh) in
-    Went (plainTurn (q .urgent) (q .long) (q .resolution)) (length x) (plainLoneIndex S x) (plainLoneSegment x) (grown (p .history) (p′ .history))
+    Went (plainTurn (q .urgent) (q .long) (q .resolution)) (length x) (plainLoneIndex S x) (plainLoneSegment x)
+    (grown (p .history) (p′ .history))
 
 abbrev pub plainSlot : Start → (ℕ → ℕ) → Plain → PlainResult
-plainSlot S pick p = record { state = plainWent S pick p (plainSettled p); answer = plainAnswer S p (plainWent S pick p (plainSettled p)) (plainSettled p) }
+plainSlot S pick p =
+    record {
+      state = plainWent S pick p (plainSettled p);
+      answer = plainAnswer S p (plainWent S pick p (plainSettled p)) (plainSettled p);
+    }
 
 -- 11: a pick outside 1 to m
 abbrev pub inRange : ℕ → List ℕ → Bool
@@ -233,7 +242,8 @@ abbrev pub plainOffer : Plain → ℕ → Option ℕ → PlainResult
 plainOffer p bytes none = plainRefuse p 16
 plainOffer p bytes (some k) =
     cond (waits p k) (plainRefuse p 9)
-    (cond (fitsMessage bytes) (plainAccept p (record { serial = length (p .taken); station = k; slots = slotsFor bytes })) (plainRefuse p 10))
+    (cond (fitsMessage bytes) (plainAccept p (record { serial = length (p .taken); station = k; slots = slotsFor bytes }))
+    (plainRefuse p 10))
 
 -- ---- the start, a call, and lists of calls
 
@@ -254,7 +264,8 @@ abbrev pub plainCall : Start → Plain → Call → PlainResult
 plainCall S p (Offer x bytes) = plainOffer p bytes (stationFrom 0 (S .indexes) x)
 plainCall S p (Slot picks) =
     cond (eqb (length picks) (length (S .indexes)))
-    (cond (inRange (S .m) picks) (cond (overflows (plainSettled p)) (plainRefuse p 7) (plainSlot S (λ k. getD picks k 1) p)) (plainRefuse p 11))
+    (cond (inRange (S .m) picks) (cond (overflows (plainSettled p)) (plainRefuse p 7) (plainSlot S (λ k. getD picks k 1) p))
+    (plainRefuse p 11))
     (plainRefuse p 17)
 
 abbrev pub plainAfter : Start → Plain → List Call → Plain

@@ -1,11 +1,11 @@
--- A station's condition as the plain channel shows it (paper 01, "Demand 3's list": "its condition its message's: fresh, asked, or its position in its queue
--- (a stretch: its segments there); free if none waits"): a search of every queue. Assumes nothing.
+-- A station's condition as the plain channel shows it (paper 01, "Demand 3's list": "its condition its message's: fresh, asked, or its
+-- position in its queue (a stretch: its segments there); free if none waits"): a search of every queue. Assumes nothing.
 use mathlib.Core.List.{List, [], _∷_}
 use mathlib.Core.Option.{Option, none, some}
 use Prim.Native.Nat.{ℕ, zero, suc}
 use lib.Dec.{eqb}
 use lib.ListN.{length}
-use Rattle.rules.specs.Lists.{onlyIf}
+use Rattle.listlaws.specs.Lists.{onlyIf}
 use Rattle.rules.specs.Messages.{Message, Segment, of, deliveredOf}
 use Rattle.rules.specs.StationLimits.{Condition, Free, Fresh, Asked, Resolving, Urgent, Long}
 use Rattle.rules.specs.Calls.{Start}
@@ -61,9 +61,11 @@ longAt n (some x) = some (Long (x .at) n (x .what .message .slots))
 abbrev pub inGroups : Plain → ℕ → ℕ → Condition
 inGroups p k zero = Free
 inGroups p k (suc g) =
-    orElse (askedAt (suc g) (find (of k) (p .group (suc g) .asking) 1)) (orElse (resolvingAt (suc g) (find (of k) (p .group (suc g) .resolution) 1)) (inGroups p k g))
+    orElse (askedAt (suc g) (find (of k) (p .group (suc g) .asking) 1))
+    (orElse (resolvingAt (suc g) (find (of k) (p .group (suc g) .resolution) 1)) (inGroups p k g))
 
 abbrev pub conditionOf : Start → Plain → ℕ → Condition
 conditionOf S p k =
     orElse (freshAt (of k (p .fresh)))
-    (orElse (urgentAt (find (one k) (p .urgent) 1)) (orElse (longAt (length (deliveredOf k (p .long))) (find (part k) (p .long) 1)) (inGroups p k (S .n))))
+    (orElse (urgentAt (find (one k) (p .urgent) 1))
+    (orElse (longAt (length (deliveredOf k (p .long))) (find (part k) (p .long) 1)) (inGroups p k (S .n))))

@@ -1,5 +1,6 @@
--- Step 1, queueing (QDR): immediate success (from Open and the weight, which is minislot's), and the counters after each minislot (paper 01, "One slot of group g", 1). Assumes nothing.
-use mathlib.Core.Bool.{Bool, true, false, _&&_, _||_}
+-- Step 1, queueing (QDR): immediate success (from Open and the weight, which is minislot's), and the counters after each minislot (paper
+-- 01, "One slot of group g", 1). Assumes nothing.
+use mathlib.Core.Bool.{Bool, true, false, not, _&&_, _||_}
 use mathlib.Core.List.{List, foldl}
 use Prim.Native.Nat.{ℕ, _+_, _-_}
 use lib.Dec.{ltb, eqb}
@@ -9,6 +10,7 @@ use Rattle.minislot.specs.declared.Feedback.the-variants.{Empty, Single, Collid
 use Rattle.minislot.specs.Row.{weight}
 use Rattle.rules.specs.declared.Counters.{Counters}
 use Rattle.rules.specs.declared.Places.{Places}
+use Rattle.rules.specs.declared.StepOne.{StepOne}
 use Rattle.rules.specs.Limits.{urgentLimit, longLimit, resolutionLimit}
 
 -- a Single of count 1 is immediate success if the group is open and the weight is 1
@@ -49,3 +51,13 @@ immediateOf c row = immediate (openedOf c) (weight row)
 -- the lengths after step 1
 unfoldable pub placesAfter : Counters → List Feedback → Places
 placesAfter c row = queuedRow (immediateOf c row) (placesOf c) row
+
+-- STEP 1, counted once for whoever keeps these counters
+unfoldable pub stepOneOf : Counters → List Feedback → StepOne
+stepOneOf c row =
+    record {
+      success = immediateOf c row;
+      before = placesOf c;
+      after = placesAfter c row;
+      fits = not (passes (placesAfter c row));
+    }

@@ -1,5 +1,5 @@
--- Calls on a row that is a stretch from the middle of a longer recording (paper 01, "A row may be a stretch .."): the row is the m words and
--- the m counts from a place on, or what there is of them. Assumes nothing.
+-- Calls on a row that is a stretch from the middle of a longer recording (paper 01, "A row may be a stretch .."): the row is the m words
+-- and the m counts from a place on, or what there is of them. Assumes nothing.
 use mathlib.Core.List.{List}
 use Prim.Native.Nat.{ℕ}
 use lib.ListN.{take, drop}

@@ -1,4 +1,5 @@
--- Step 3, requests (RTR), and RQ's part of step 5 (paper 01, "One slot of group g", 3 and 5). r is RQ of the slot's group g after step 1. Assumes nothing.
+-- Step 3, requests (RTR), and RQ's part of step 5 (paper 01, "One slot of group g", 3 and 5). r is RQ of the slot's group g after step 1.
+-- Assumes nothing.
 use mathlib.Core.Bool.{Bool, false, _&&_, cond}
 use Prim.Native.Nat.{ℕ, _-_}
 use lib.Dec.{eqb, ltb}

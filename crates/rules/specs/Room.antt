@@ -1,5 +1,5 @@
--- How long the queues of a sound table can be: each place of H is a station's, each station has at most 255 slots in N, and each place of an RQ has two stations
--- or more. So no queue of 64 stations is ever full (proofs/NeverSeven). Assumes nothing.
+-- How long the queues of a sound table can be: each place of H is a station's, each station has at most 255 slots in N, and each place of
+-- an RQ has two stations or more. So no queue of 64 stations is ever full (proofs/NeverSeven). Assumes nothing.
 use mathlib.Core.List.{List}
 use Prim.Native.Nat.{ℕ, _*_, _≤_}
 use lib.ListN.{length}

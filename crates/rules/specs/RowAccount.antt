@@ -1,5 +1,5 @@
--- Demand 2's account of the row (paper 01, "Minislots and patterns"): what the stations transmit in a slot makes the group's new row, and read back it shows
--- who spoke alone, for how many slots, and where two or more spoke. Assumes nothing.
+-- Demand 2's account of the row (paper 01, "Minislots and patterns"): what the stations transmit in a slot makes the group's new row, and
+-- read back it shows who spoke alone, for how many slots, and where two or more spoke. Assumes nothing.
 use mathlib.Core.Path.{_≡_}
 use mathlib.Core.List.{List, map}
 use Prim.Native.Nat.{ℕ, _-_, _≤_}
@@ -15,13 +15,15 @@ use Rattle.rules.specs.Soundness.{tableCounters}
 use Rattle.rules.specs.ChannelCalls.{Channel, blankRow, heardRow, slotsOf, requestsIn, channelSlotOf}
 use Rattle.rules.specs.Calls.{Went}
 
--- results are the stations' slots, row the group's new row; `requestsIn j results` are the requests (index and whole slot count) sent in minislot j
+-- results are the stations' slots, row the group's new row; `requestsIn j results` are the requests (index and whole slot count) sent in
+-- minislot j
 pub record RowAccount (results : List StationSlot) (row : List Minislot) : Type 0 where
   pub size : length row ≡ 8
   -- each minislot is the OR of the words and counts sent there
   pub made : (j : ℕ) → 1 ≤ j → j ≤ 8 → getD row (j - 1) silent ≡ together (map carries (requestsIn j results))
   -- and reads as Empty, as the one that spoke alone with its slots, or as Collide
-  pub read : (j : ℕ) → 1 ≤ j → j ≤ 8 → readingOf (getD row (j - 1) silent .word) (getD row (j - 1) silent .count) ≡ Heard (spoken (requestsIn j results))
+  pub read : (j : ℕ) → 1 ≤ j → j ≤ 8
+      → readingOf (getD row (j - 1) silent .word) (getD row (j - 1) silent .count) ≡ Heard (spoken (requestsIn j results))
 
 -- of every slot of every channel that goes through
 abbrev pub RowAccountHolds : Type 0

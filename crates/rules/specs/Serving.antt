@@ -1,6 +1,6 @@
 -- Step 4, data (DTR), and the transmission queues' part of step 5 (paper 01, "One slot of group g", 4 and 5). Assumes nothing.
 use mathlib.Core.Bool.{Bool, _&&_, cond}
-use Prim.Native.Nat.{ℕ, _+_, _-_}
+use Prim.Native.Nat.{ℕ, _-_}
 use lib.Dec.{eqb}
 use Rattle.rules.specs.Turns.{Turn, UrgentTurn, LongTurn, ResolveTurn, OpenTurn}
 use Rattle.rules.specs.StationLimits.{Condition, Free, Fresh, Asked, Resolving, Urgent, Long}
@@ -15,14 +15,14 @@ urgentSegment (Resolving h i t) = 0
 urgentSegment (Urgent i) = cond (eqb i 1) 1 0
 urgentSegment (Long f l t) = 0
 
--- long: the station whose stretch begins at N place 1 sends its next segment
+-- long: the station whose stretch begins at N place 1 sends its next segment, before which all but l are sent
 abbrev pub longSegment : Condition → ℕ
 longSegment Free = 0
 longSegment (Fresh t) = 0
 longSegment (Asked h j t) = 0
 longSegment (Resolving h i t) = 0
 longSegment (Urgent i) = 0
-longSegment (Long f l t) = cond (eqb f 1) (t - l + 1) 0
+longSegment (Long f l t) = cond (eqb f 1) (t - (l - 1)) 0
 
 -- open: each station that requests one slot here also sends its data
 abbrev pub openSegment : Bool → ℕ → ℕ

@@ -1,5 +1,5 @@
--- What the paper says of a sound table (paper 01, "The channel"), clause by clause, place by place. The test `soundTable` says the same: proofs/SoundMeans.
--- Assumes nothing.
+-- What the paper says of a sound table (paper 01, "The channel"), clause by clause, place by place. The test `soundTable` says the same:
+-- proofs/SoundMeans. Assumes nothing.
 use mathlib.Core.Path.{_≡_}
 use mathlib.Core.Bool.{Bool, true, false, _&&_}
 use mathlib.Core.List.{List}
@@ -8,14 +8,16 @@ use lib.Dec.{eqb, leb, ltb}
 use lib.ListN.{length, getD}
 use Rattle.minislot.specs.Together.{silent}
 use Rattle.rules.specs.declared.Station.{Station}
-use Rattle.rules.specs.declared.Row.{Row}
-use Rattle.rules.specs.Lists.{countOf}
+use Rattle.rules.specs.declared.WireRow.{WireRow}
+use Rattle.listlaws.specs.Lists.{countOf}
 use Rattle.rules.specs.StationLimits.{Condition, Free, Fresh, Asked, Resolving, Urgent, Long, resolutionAt, stationWithin}
 use Rattle.rules.specs.StationCalls.{noStation}
-use Rattle.rules.specs.Soundness.{tableCounters, askedMinislot}
+use Rattle.rules.specs.declared.TableMessage.{TableMessage}
+use Rattle.rules.specs.Soundness.{tableCounters, messagesOf, askedMinislot}
 use Rattle.rules.specs.ChannelCalls.{blankRow}
 
--- a station stands at place i of the urgent queue; its stretch covers place i of the long queue; it stands at place i of group g's resolution queue
+-- a station stands at place i of the urgent queue; its stretch covers place i of the long queue; it stands at place i of group g's
+-- resolution queue
 abbrev pub atUrgent : ℕ → Condition → Bool
 atUrgent i Free = false
 atUrgent i (Fresh t) = false
@@ -40,14 +42,14 @@ atResolving g i (Resolving h j t) = eqb h g && eqb i j
 atResolving g i (Urgent j) = false
 atResolving g i (Long f l t) = false
 
--- the k-th station; how many stations pass a test on their conditions
+-- the k-th station; how many messages of the table's stations pass a test on their conditions
 abbrev pub stationAt : List Station → ℕ → Station
 stationAt stations k = getD stations k noStation
 
 abbrev pub howMany : (Condition → Bool) → List Station → ℕ
-howMany test stations = countOf (λ (s : Station). test (s .condition)) stations
+howMany test stations = countOf (λ (m : TableMessage). test (m .condition)) (messagesOf stations)
 
-pub record Sound (stations : List Station) (rows : List Row) : Type 0 where
+pub record Sound (stations : List Station) (rows : List WireRow) : Type 0 where
   -- indexes are distinct
   pub distinct : (i k : ℕ) → i < length stations → k < length stations → stationAt stations i .index ≡ stationAt stations k .index → i ≡ k
   -- every record is within its limits
@@ -61,5 +63,6 @@ pub record Sound (stations : List Station) (rows : List Row) : Type 0 where
   -- each place of each RQ has two stations or more
   pub resolution : (g i : ℕ) → 1 ≤ g → g ≤ 8 → 1 ≤ i → i ≤ resolutionAt (tableCounters stations) g → 2 ≤ howMany (atResolving g i) stations
   -- each wire minislot equals the OR over the stations asked there; the wire has 8 rows of 8 minislots
-  pub wire : (g j : ℕ) → 1 ≤ g → g ≤ 8 → 1 ≤ j → j ≤ 8 → getD (getD rows (g - 1) blankRow .minislots) (j - 1) silent ≡ askedMinislot stations g j
+  pub wire : (g j : ℕ) → 1 ≤ g → g ≤ 8 → 1 ≤ j → j ≤ 8
+      → getD (getD rows (g - 1) blankRow .minislots) (j - 1) silent ≡ askedMinislot stations g j
   pub size : (length rows ≡ 8) × ((g : ℕ) → 1 ≤ g → g ≤ 8 → length (getD rows (g - 1) blankRow .minislots) ≡ 8)

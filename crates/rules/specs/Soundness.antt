@@ -1,23 +1,33 @@
--- A sound table (paper 01, "The channel"), clause by clause, each a test that takes no longer for longer queues; and their conjunction (refusal 18).
--- That each test says what the paper's clause says is proved in proofs/SoundMeaning. Assumes nothing.
-use mathlib.Core.Bool.{Bool, true, false, not, _&&_, _||_, cond, Bool·beq}
+-- A sound table (paper 01, "The channel"), clause by clause, and their conjunction (refusal 18). The tests on places are those of crate
+-- `places`. That each clause says what the paper's says, place by place, is shown in proofs/SoundMeans. Assumes nothing.
+use mathlib.Core.Bool.{Bool, true, false, not, _&&_, Bool·beq}
 use mathlib.Core.List.{List, [], _∷_, map}
-use Prim.Native.Nat.{ℕ, suc, _+_}
-use lib.Dec.{leb, eqb}
+use Prim.Native.Nat.{ℕ, suc}
+use lib.Dec.{eqb}
 use lib.ListN.{length, getD}
 use Rattle.minislot.specs.declared.Minislot.{Minislot}
 use Rattle.minislot.specs.Together.{Request, carries, together}
 use Rattle.rules.specs.declared.Counters.{Counters}
 use Rattle.rules.specs.declared.Station.{Station}
-use Rattle.rules.specs.declared.Row.{Row}
-use Rattle.rules.specs.Lists.{each, eachPair, sumOf, countOf, onlyIf, gatherOf}
+use Rattle.rules.specs.declared.WireRow.{WireRow}
+use Rattle.listlaws.specs.Lists.{each, eachPair, onlyIf, gatherOf}
 use Rattle.listlaws.specs.Every.{everyFrom}
+use Rattle.places.specs.declared.Stretch.{Stretch}
+use Rattle.places.specs.Places.{takenOnce, covered, crowded}
+use Rattle.rules.specs.declared.TableMessage.{TableMessage}
 use Rattle.rules.specs.StationLimits.{Condition, Free, Fresh, Asked, Resolving, Urgent, Long, stationWithin}
 use Rattle.rules.specs.StationCalls.{noStation}
 
 -- the counters of a table: those of its first station
 abbrev pub tableCounters : List Station → Counters
 tableCounters stations = getD stations 0 noStation .counters
+
+-- the messages of a table: each station's own, with the station's index. All clauses on queues and wire go over them
+abbrev pub messagesIn : Station → List TableMessage
+messagesIn s = record { index = s .index; condition = s .condition } ∷ []
+
+abbrev pub messagesOf : List Station → List TableMessage
+messagesOf stations = gatherOf messagesIn stations
 
 -- ---- indexes are distinct
 
@@ -48,13 +58,14 @@ sameMarks (x ∷ a) (y ∷ b) = Bool·beq x y && sameMarks a b
 
 unfoldable pub sameCounters : Counters → Counters → Bool
 sameCounters a b =
-    eqb (a .minislots) (b .minislots) && eqb (a .groups) (b .groups) && eqb (a .next) (b .next) && eqb (a .urgent) (b .urgent) && eqb (a .long) (b .long)
+    eqb (a .minislots) (b .minislots) && eqb (a .groups) (b .groups) && eqb (a .next) (b .next) && eqb (a .urgent) (b .urgent)
+    && eqb (a .long) (b .long)
     && sameNumbers (a .resolution) (b .resolution) && sameMarks (a .opened) (b .opened)
 
 unfoldable pub countersShared : List Station → Bool
 countersShared stations = each (λ (s : Station). sameCounters (tableCounters stations) (s .counters)) stations
 
--- ---- each H place has exactly one station: as many urgent stations as places, no two at one place
+-- ---- each H place has exactly one station
 
 abbrev pub urgentPlace : Condition → List ℕ
 urgentPlace Free = []
@@ -64,20 +75,13 @@ urgentPlace (Resolving g i t) = []
 urgentPlace (Urgent i) = i ∷ []
 urgentPlace (Long f l t) = []
 
-abbrev pub urgentPlaces : List Station → List ℕ
-urgentPlaces stations = gatherOf (λ (s : Station). urgentPlace (s .condition)) stations
-
-abbrev pub differ : ℕ → ℕ → Bool
-differ a b = not (eqb a b)
+abbrev pub urgentPlaces : List TableMessage → List ℕ
+urgentPlaces messages = gatherOf (λ (m : TableMessage). urgentPlace (m .condition)) messages
 
 unfoldable pub urgentSound : List Station → Bool
-urgentSound stations = eqb (length (urgentPlaces stations)) (tableCounters stations .urgent) && eachPair differ (urgentPlaces stations)
+urgentSound stations = takenOnce (urgentPlaces (messagesOf stations)) (tableCounters stations .urgent)
 
--- ---- the long stretches cover 1 to N without overlap: as many slots left as places, no two stretches overlap
-
-pub record Stretch : Type 0 where
-  pub first : ℕ
-  pub left : ℕ
+-- ---- the long stretches cover 1 to N without overlap
 
 abbrev pub longStretch : Condition → List Stretch
 longStretch Free = []
@@ -87,17 +91,13 @@ longStretch (Resolving g i t) = []
 longStretch (Urgent i) = []
 longStretch (Long f l t) = record { first = f; left = l } ∷ []
 
-abbrev pub longStretches : List Station → List Stretch
-longStretches stations = gatherOf (λ (s : Station). longStretch (s .condition)) stations
-
--- one ends before the other begins
-abbrev pub apart : Stretch → Stretch → Bool
-apart a b = leb (a .first + a .left) (b .first) || leb (b .first + b .left) (a .first)
+abbrev pub longStretches : List TableMessage → List Stretch
+longStretches messages = gatherOf (λ (m : TableMessage). longStretch (m .condition)) messages
 
 unfoldable pub longSound : List Station → Bool
-longSound stations = eqb (sumOf (λ (s : Stretch). s .left) (longStretches stations)) (tableCounters stations .long) && eachPair apart (longStretches stations)
+longSound stations = covered (longStretches (messagesOf stations)) (tableCounters stations .long)
 
--- ---- each place of each RQ has two stations or more: as many places held as RQ counts, each by two or more
+-- ---- each place of each RQ has two stations or more
 
 abbrev pub resolvingPlace : ℕ → Condition → List ℕ
 resolvingPlace g Free = []
@@ -107,21 +107,12 @@ resolvingPlace g (Resolving h i t) = onlyIf (eqb h g) (i ∷ [])
 resolvingPlace g (Urgent i) = []
 resolvingPlace g (Long f l t) = []
 
-abbrev pub resolvingPlaces : ℕ → List Station → List ℕ
-resolvingPlaces g stations = gatherOf (λ (s : Station). resolvingPlace g (s .condition)) stations
-
--- how many different places a list names: those that no later one repeats
-abbrev pub differentPlaces : List ℕ → ℕ
-differentPlaces [] = 0
-differentPlaces (i ∷ l) = cond (each (differ i) l) 1 0 + differentPlaces l
-
--- a place is named twice or more
-abbrev pub namedTwice : List ℕ → ℕ → Bool
-namedTwice places i = leb 2 (countOf (eqb i) places)
+abbrev pub resolvingPlaces : ℕ → List TableMessage → List ℕ
+resolvingPlaces g messages = gatherOf (λ (m : TableMessage). resolvingPlace g (m .condition)) messages
 
 -- group g's resolution queue, of r places
 abbrev pub resolutionSoundAt : List Station → ℕ → ℕ → Bool
-resolutionSoundAt stations g r = eqb (differentPlaces (resolvingPlaces g stations)) r && each (namedTwice (resolvingPlaces g stations)) (resolvingPlaces g stations)
+resolutionSoundAt stations g r = crowded (resolvingPlaces g (messagesOf stations)) r
 
 unfoldable pub resolutionSound : List Station → Bool
 resolutionSound stations = everyFrom (λ i r. resolutionSoundAt stations (suc i) r) 0 (tableCounters stations .resolution)
@@ -137,24 +128,26 @@ askedRequest g j index (Resolving h i t) = []
 askedRequest g j index (Urgent i) = []
 askedRequest g j index (Long f l t) = []
 
-abbrev pub askedRequests : ℕ → ℕ → List Station → List Request
-askedRequests g j stations = gatherOf (λ (s : Station). askedRequest g j (s .index) (s .condition)) stations
+abbrev pub askedRequests : ℕ → ℕ → List TableMessage → List Request
+askedRequests g j messages = gatherOf (λ (m : TableMessage). askedRequest g j (m .index) (m .condition)) messages
 
 unfoldable pub askedMinislot : List Station → ℕ → ℕ → Minislot
-askedMinislot stations g j = together (map carries (askedRequests g j stations))
+askedMinislot stations g j = together (map carries (askedRequests g j (messagesOf stations)))
 
 abbrev pub sameMinislot : Minislot → Minislot → Bool
 sameMinislot a b = eqb (a .word) (b .word) && eqb (a .count) (b .count)
 
-abbrev pub rowSound : List Station → ℕ → Row → Bool
-rowSound stations g row = eqb (length (row .minislots)) 8 && everyFrom (λ i slot. sameMinislot slot (askedMinislot stations g (suc i))) 0 (row .minislots)
+abbrev pub rowSound : List Station → ℕ → WireRow → Bool
+rowSound stations g row =
+    eqb (length (row .minislots)) 8 && everyFrom (λ i slot. sameMinislot slot (askedMinislot stations g (suc i))) 0 (row .minislots)
 
-unfoldable pub wireSound : List Station → List Row → Bool
+unfoldable pub wireSound : List Station → List WireRow → Bool
 wireSound stations wire = eqb (length wire) 8 && everyFrom (λ i row. rowSound stations (suc i) row) 0 wire
 
 -- ---- THE TABLE IS SOUND
 
-unfoldable pub soundTable : List Station → List Row → Bool
+unfoldable pub soundTable : List Station → List WireRow → Bool
 soundTable stations wire =
-    indexesDistinct stations && recordsWithin stations && countersShared stations && urgentSound stations && longSound stations && resolutionSound stations
+    indexesDistinct stations && recordsWithin stations && countersShared stations && urgentSound stations && longSound stations
+    && resolutionSound stations
     && wireSound stations wire

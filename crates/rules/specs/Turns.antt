@@ -3,7 +3,8 @@ use mathlib.Core.Bool.{Bool, true, false, cond}
 use lib.Dec.{ltb}
 use Rattle.rules.specs.declared.Places.{Places}
 pub use Rattle.rules.specs.declared.Turn.{Turn}
-pub use Rattle.rules.specs.declared.Turn.the-variants.{Urgent as UrgentTurn, Long as LongTurn, Resolve as ResolveTurn, Open as OpenTurn}
+pub use Rattle.rules.specs.declared.Turn.the-variants.{Urgent as UrgentTurn, Long as LongTurn}
+pub use Rattle.rules.specs.declared.Turn.the-variants.{Resolve as ResolveTurn, Open as OpenTurn}
 
 -- H > 0: urgent; else N > 0: long; else RQ > 0: resolve; else open. The lengths are those after step 1
 unfoldable pub turnOf : Places → Turn

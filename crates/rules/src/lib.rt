@@ -26,6 +26,15 @@ pub struct Places {
     pub resolution: u32,
 }
 
+// Step 1 of a slot, counted once: whether a Single of count 1 is immediate success, the lengths before the row and after it, and whether
+// those after it are within their limits.
+pub struct StepOne {
+    pub success: bool,
+    pub before: Places,
+    pub after: Places,
+    pub fits: bool,
+}
+
 // The turn of a slot: which queue its data slot serves.
 pub enum Turn {
     Urgent,
@@ -44,6 +53,42 @@ pub enum Condition {
     Long { first: u16, left: u8, total: u8 },
 }
 
+// Where step 1 takes the message that asked in a minislot: nowhere (nobody asked there, or success was immediate), or to a new place of a
+// queue.
+pub enum Landing {
+    Gone,
+    ToUrgent { place: u16 },
+    ToLong { first: u16 },
+    ToResolution { place: u16 },
+}
+
+// A minislot's landing: an array of enums is no covered field, so each stands in a struct.
+pub struct Landed {
+    pub landing: Landing,
+}
+
+// The outcome of a slot: what all stations with the same counters have in common, worked out once from the counters and the row.
+pub struct Outcome {
+    // the group whose slot it is
+    pub group: u8,
+    pub turn: Turn,
+    // RQ of the group after step 1
+    pub resolution: u32,
+    // where each minislot lands a newcomer
+    pub landed: [Landed; 8],
+    // the counters after the slot
+    pub counters: Counters,
+    // slots that the row heard delivered
+    pub delivered: u8,
+}
+
+// What a message does in a slot: its condition after it, the minislot of its request and the segment it sends (0 for none).
+pub struct Acted {
+    pub condition: Condition,
+    pub minislot: u8,
+    pub segment: u8,
+}
+
 // A station's record (paper: box).
 pub struct Station {
     pub counters: Counters,
@@ -51,8 +96,14 @@ pub struct Station {
     pub condition: Condition,
 }
 
+// A message of a table: its station's index, and where it stands.
+pub struct TableMessage {
+    pub index: u16,
+    pub condition: Condition,
+}
+
 // One group's minislots on the wire.
-pub struct Row {
+pub struct WireRow {
     pub minislots: [Minislot; 8],
 }
 
@@ -86,7 +137,8 @@ pub enum OfferAnswer {
     Refused(u8),
 }
 
-// The answer to a station's slot: the turn, the minislot of its request and the segment it sends (0 for none); or the number of the refusal.
+// The answer to a station's slot: the turn, the minislot of its request and the segment it sends (0 for none); or the number of the
+// refusal.
 pub enum SlotAnswer {
     Went {
         turn: Turn,
@@ -114,8 +166,17 @@ pub struct StationSlot {
     pub station: Station,
 }
 
-// The answer to a call on a channel: the number of the refusal; an offer's slot total; a slot's turn, its number of data senders, the index and
-// segment of a lone sender (0 and 0 if there isn't just one), and the slots delivered in the call.
+// What the stations of a channel send in a slot: the group's new row, the number of data senders, and a lone one's index and segment (0 and
+// 0 if there isn't just one).
+pub struct Sent {
+    pub minislots: [Minislot; 8],
+    pub senders: u8,
+    pub index: u16,
+    pub segment: u8,
+}
+
+// The answer to a call on a channel: the number of the refusal; an offer's slot total; a slot's turn, its number of data senders, the index
+// and segment of a lone sender (0 and 0 if there isn't just one), and the slots delivered in the call.
 pub enum Answer {
     Refused(u8),
     Taken(u8),

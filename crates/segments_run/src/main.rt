@@ -1,14 +1,29 @@
 // Slot totals and segments, written out for comparison with a program that was made apart from this one.
 //
-// A line `slots` has the bytes, the number and the slot total; a line `segment` the message's bytes, j, the number, the
-// part's bytes, and its first and last byte (0 and 0 of an empty part).
-use libc::STDOUT_FILENO;
+// The cases come from standard input, a line each, and each line's answer follows it. A line `slots` has a message's bytes, and is answered
+// by the number and the slot total; a line `segment` a message's bytes and j, and is answered by the number, the part's bytes, and its
+// first and last byte (0 and 0 of an empty part).
+use libc::STDIN_FILENO;
 use message::SlotTotal;
+use runs_cases::begins;
+use runs_cases::group_at;
+use runs_cases::is_note;
+use runs_cases::line_end;
+use runs_cases::number;
+use runs_text::field;
+use runs_text::field8;
+use runs_text::text;
 ghost use mathlib.Core.Path.{_≡_};
+ghost use Prim.Native.Nat.{_≤_};
 ghost use lib.ListN.{length};
 
+// One byte more than the longest message has.
+const MOST: usize = 12241;
+
 // The message's bytes: byte i is (31 · (i mod 251) + 7) mod 251.
-fn fill(space: &mut [u8]) {
+fn fill(space: &mut [u8])
+    ensures { λ _. ⌜ length (now (space .exit)) ≡ length (now (space .entry)) ⌝ }
+{
     let mut i: usize = 0;
     while i < space.len() {
         space[i] = ((31 * (i % 251) + 7) % 251) as u8;
@@ -16,41 +31,23 @@ fn fill(space: &mut [u8]) {
     }
 }
 
-fn field(n: u64) {
-    io::write_all(STDOUT_FILENO, b",");
-    io::print_decimal(STDOUT_FILENO, n);
+fn least(a: usize, b: usize) -> usize
+    ensures { λ r. ⌜ r ≤ b ⌝ }
+{
+    if a < b { a } else { b }
 }
 
-fn line_end() {
-    io::write_all(STDOUT_FILENO, b"\n");
-}
-
-fn total_line(bytes: usize, number: u8, total: u8) {
-    io::write_all(STDOUT_FILENO, b"slots");
-    field(bytes as u64);
-    field(number as u64);
-    field(total as u64);
-    line_end();
-}
-
-fn total_of(bytes: usize) {
-    match message::slots(bytes) {
-        SlotTotal::Slots(total) => total_line(bytes, 0, total),
-        SlotTotal::Refused(number) => total_line(bytes, number, 0),
+fn slots_text(total: SlotTotal) {
+    match total {
+        SlotTotal::Slots(slots) => {
+            field8(0);
+            field8(slots);
+        }
+        SlotTotal::Refused(number) => {
+            field8(number);
+            field8(0);
+        }
     }
-}
-
-fn totals() {
-    total_of(0);
-    total_of(1);
-    total_of(48);
-    total_of(49);
-    total_of(96);
-    total_of(97);
-    total_of(12239);
-    total_of(12240);
-    total_of(12241);
-    total_of(18446744073709551615);
 }
 
 fn first(part: &[u8]) -> u8 {
@@ -67,52 +64,50 @@ fn last(part: &[u8]) -> u8 {
     part[part.len() - 1]
 }
 
-fn segment_line(message: &[u8], j: usize) {
+fn segment_text(message: &[u8], j: usize) {
     let mut number: u8 = 0;
     let part = message::segment(message, j, &mut number);
-    io::write_all(STDOUT_FILENO, b"segment");
-    field(message.len() as u64);
-    field(j as u64);
-    field(number as u64);
+    field8(number);
     field(part.len() as u64);
-    field(first(part) as u64);
-    field(last(part) as u64);
-    line_end();
+    field8(first(part));
+    field8(last(part));
 }
 
-// The slot total of a message, and 0 of what is none.
-fn last_segment(bytes: usize) -> u8 {
-    match message::slots(bytes) {
-        SlotTotal::Slots(total) => total,
-        SlotTotal::Refused(_) => 0,
+// One line: it is written, and then its answer. A message is the first bytes of the space.
+fn case(line: &[u8], space: &[u8])
+    requires { ⌜ length (now space) ≡ 12241 ⌝ }
+{
+    if is_note(line) {
+        return;
+    }
+    text(line);
+    let head = group_at(line, 0);
+    let bytes = number(head, 1) as usize;
+    if begins(line, b"slots") {
+        slots_text(message::slots(bytes));
+    }
+    if begins(line, b"segment") {
+        let end = least(bytes, MOST);
+        segment_text(&space[0..end], number(head, 2) as usize);
+    }
+    text(b"\n");
+}
+
+fn cases(bytes: &[u8], space: &[u8])
+    requires { ⌜ length (now space) ≡ 12241 ⌝ }
+{
+    let mut at: usize = 0;
+    while at < bytes.len() {
+        let end = line_end(bytes, at);
+        case(&bytes[at..end], space);
+        at = end + 1;
     }
 }
 
-// Segments 0, 1, 2, the last and one past it.
-fn segments(message: &[u8]) {
-    let end = last_segment(message.len()) as usize;
-    segment_line(message, 0);
-    segment_line(message, 1);
-    segment_line(message, 2);
-    segment_line(message, end);
-    segment_line(message, end + 1);
-}
-
-fn messages(space: &[u8])
-    requires { ⌜ length (now space) ≡ 12241 ⌝ }
-{
-    segments(&space[0..0]);
-    segments(&space[0..1]);
-    segments(&space[0..48]);
-    segments(&space[0..49]);
-    segments(&space[0..100]);
-    segments(&space[0..12240]);
-    segments(&space[0..12241]);
-}
-
 fn main() {
-    totals();
     let mut space = [0u8; 12241];
     fill(&mut space);
-    messages(&space);
+    let mut input = io::large_buffer();
+    let n = io::read_full(STDIN_FILENO, &mut input);
+    cases(&input[..n], &space);
 }

@@ -1,2 +1,6 @@
-pub mod Agreeing
-pub mod WireLaws
+mod Comparing
+mod Parts
+mod Drawing
+mod Projections
+mod Agreeing
+mod Rows

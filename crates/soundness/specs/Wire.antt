@@ -1,55 +1,66 @@
--- The wire that a table's asked stations make, request by request. Assumes nothing.
-use mathlib.Core.Path.{_≡_}
-use mathlib.Core.Bool.{Bool, _&&_, cond}
-use mathlib.Core.List.{List, []}
-use Prim.Native.Nat.{ℕ, suc, _-_, _<_}
+-- The requests of a table's messages, the row that one group's make, and a wire that carries them. Assumes nothing.
+use mathlib.Core.Bool.{Bool, true, false, _&&_}
+use mathlib.Core.List.{List, [], _∷_, map}
+use Prim.Native.Nat.{ℕ, suc}
 use lib.Dec.{eqb}
-use lib.ListN.{length, getD, set}
+use lib.ListN.{length}
 use Rattle.listlaws.specs.Every.{everyFrom}
+use Rattle.listlaws.specs.Lists.{gatherOf, onlyIf, padded, tabulate}
 use Rattle.minislot.specs.declared.Minislot.{Minislot}
-use Rattle.minislot.specs.Together.{silent, joined}
+use Rattle.minislot.specs.Together.{Request, carries, together}
+use Rattle.rules.specs.declared.TableMessage.{TableMessage}
+use Rattle.rules.specs.declared.WireRow.{WireRow}
 use Rattle.rules.specs.declared.Condition.{Condition}
 use Rattle.rules.specs.declared.Condition.the-variants.{Free, Fresh, Asked, Resolving, Urgent, Long}
-use Rattle.rules.specs.declared.Station.{Station}
-use Rattle.rules.specs.declared.Row.{Row}
-use Rattle.rules.specs.Limits.{between}
-use Rattle.rules.specs.Soundness.{askedMinislot, sameMinislot}
-use Rattle.soundness.specs.declared.Asking.{Asking}
+use Rattle.rules.specs.Soundness.{askedRequests, sameMinislot}
+use Rattle.soundness.specs.declared.wire.FoundRequest.{FoundRequest}
+use Rattle.soundness.specs.declared.wire.WireRequest.{WireRequest}
+use Rattle.soundness.specs.declared.wire.DrawnRequests.{DrawnRequests}
 
-abbrev pub nowhere : Asking
-nowhere = record { group = 0; minislot = 0; total = 0 }
+-- ---- requests, each with its group and minislot
 
--- where a condition is asked, and its total
-abbrev pub askingOf : Condition → Asking
-askingOf Free = nowhere
-askingOf (Fresh t) = nowhere
-askingOf (Asked g j t) = record { group = g; minislot = j; total = t }
-askingOf (Resolving g i t) = nowhere
-askingOf (Urgent i) = nowhere
-askingOf (Long f l t) = nowhere
+abbrev pub noRequest : WireRequest
+noRequest = record { group = 0; minislot = 0; index = 0; total = 0 }
 
-abbrev pub emptyRow : Row
-emptyRow = record { minislots = [] }
+abbrev pub notAsked : FoundRequest
+notAsked = record { found = false; request = noRequest }
 
--- the minislot at position j of the row at position g
-abbrev pub slotAt : List Row → ℕ → ℕ → Minislot
-slotAt wire g j = getD (getD wire g emptyRow .minislots) j silent
+-- the request of a condition, for a station's index
+abbrev pub requestFound : ℕ → Condition → FoundRequest
+requestFound index Free = notAsked
+requestFound index (Fresh t) = notAsked
+requestFound index (Asked g j t) = record { found = true; request = record { group = g; minislot = j; index = index; total = t } }
+requestFound index (Resolving g i t) = notAsked
+requestFound index (Urgent i) = notAsked
+requestFound index (Long f l t) = notAsked
 
--- a minislot joined there
-abbrev pub joinedAt : List Row → ℕ → ℕ → Minislot → List Row
-joinedAt wire g j m = set wire g (record { minislots = set (getD wire g emptyRow .minislots) j (joined (slotAt wire g j) m) })
+abbrev pub requestDrawn : TableMessage → List WireRequest
+requestDrawn m = onlyIf (requestFound (m .index) (m .condition) .found) (requestFound (m .index) (m .condition) .request ∷ [])
 
--- a request joined where it is asked, if that is one of the wire's minislots
-unfoldable pub withRequest : List Row → Asking → ℕ → List Row
-withRequest wire a word =
-    cond (between 1 (a .group) 8 && between 1 (a .minislot) 8) (joinedAt wire (a .group - 1) (a .minislot - 1) (record { word = word; count = a .total })) wire
+abbrev pub requestsOf : List TableMessage → List WireRequest
+requestsOf messages = gatherOf requestDrawn messages
 
--- a wire of 8 rows of 8 minislots, each the OR over the stations asked there
-pub record Carries (wire : List Row) (stations : List Station) : Type 0 where
-  pub rows : length wire ≡ 8
-  pub minislots : (g : ℕ) → g < 8 → length (getD wire g emptyRow .minislots) ≡ 8
-  pub slots : (g j : ℕ) → g < 8 → j < 8 → slotAt wire g j ≡ askedMinislot stations (suc g) (suc j)
+abbrev pub drawnRequests : List WireRequest → DrawnRequests
+drawnRequests l = record { list = padded 64 noRequest l; count = length l }
 
--- the row at position g has 8 minislots, those of the expected wire
-abbrev pub rowLike : List Row → ℕ → Row → Bool
-rowLike expected g row = eqb (length (row .minislots)) 8 && everyFrom (λ j slot. sameMinislot slot (slotAt expected g j)) 0 (row .minislots)
+-- ---- one group's row
+
+-- the request, if it is of minislot j of group g
+abbrev pub requestAt : ℕ → ℕ → WireRequest → List Request
+requestAt g j a = onlyIf (eqb (a .group) g && eqb (a .minislot) j) (record { index = a .index; total = a .total } ∷ [])
+
+unfoldable pub minislotOf : ℕ → ℕ → List WireRequest → Minislot
+minislotOf g j requests = together (map carries (gatherOf (requestAt g j) requests))
+
+abbrev pub carriedRow : ℕ → List WireRequest → List Minislot
+carriedRow g requests = tabulate 8 (λ j. minislotOf g (suc j) requests)
+
+-- ---- a wire of 8 rows of 8 minislots, each the OR over the messages asked there
+
+abbrev pub rowCarries : List TableMessage → ℕ → WireRow → Bool
+rowCarries messages g row =
+    eqb (length (row .minislots)) 8
+    && everyFrom (λ i slot. sameMinislot slot (together (map carries (askedRequests g (suc i) messages)))) 0 (row .minislots)
+
+unfoldable pub wireCarries : List TableMessage → List WireRow → Bool
+wireCarries messages wire = eqb (length wire) 8 && everyFrom (λ i row. rowCarries messages (suc i) row) 0 wire

@@ -1,95 +1,58 @@
 // Every number of every call of a station, and a few of its lives, written out for comparison with a program that was made apart from this
 // one.
 //
-// A line `start`, `offer`, `slot` or `slot_at` has the call's arguments (a slot's minislots as word and count in turn); the line after it the
-// answer; a line `record` the record after the call: m, n, the next group, H, N, eight RQ, eight Open marks, the index and the condition.
-use printing::field;
-use printing::field8;
-use printing::field16;
-use printing::record_line;
-use printing::refused_line;
-use printing::text;
-use printing::turn_text;
-use rules::Condition;
-use rules::Counters;
+// The cases come from standard input, a line each, on the record that the line before left. A line `start`, `offer`, `slot` or `slot_at`
+// has the call's arguments (a slot's minislots as word and count in turn); it is written, then the answer, then a line `record` with the
+// record after the call: m, n, the next group, H, N, eight RQ, eight Open marks, the index and the condition. A line `given` makes a record
+// that no call made: m, n, the next group, H, N, the first two RQ, the first Open mark (1 for yes), the index, and then the condition.
+// `keep` keeps the record, and `again` comes back to the one that was kept.
+use libc::STDIN_FILENO;
 use rules::OfferAnswer;
 use rules::SlotAnswer;
-use rules::StartAnswer;
 use rules::Station;
+use runs_cases::Group;
+use runs_cases::begins;
+use runs_cases::count;
+use runs_cases::group_at;
+use runs_cases::is_note;
+use runs_cases::line_end;
+use runs_cases::number;
+use runs_cases::number8;
+use runs_cases::number16;
+use runs_records::condition_of;
+use runs_records::counters_of;
+use runs_records::record_line;
+use runs_records::start_line;
+use runs_records::taken_line;
+use runs_records::turn_text;
+use runs_text::field8;
+use runs_text::refused_line;
+use runs_text::text;
+ghost use Prim.Native.Nat.{_≤_};
+
+// The record that the next call is made on, and the one that was kept.
+struct Records {
+    last: Station,
+    kept: Station,
+}
 
 // ---- the calls
 
-fn begin(m: u8, n: u8, index: u16) -> Station {
-    text(b"start");
-    field8(m);
-    field8(n);
-    field16(index);
-    text(b"\n");
-    let r = station::start(m, n, index);
+fn begun(head: Group) -> Station {
+    let r = station::start(number8(head, 1), number8(head, 2), number16(head, 3));
     let answer = r.answer;
-    let s = r.station;
-    match answer {
-        StartAnswer::Ready => text(b"ready\n"),
-        StartAnswer::Refused(number) => refused_line(number),
-    }
-    record_line(s);
-    s
-}
-
-// A record that no call made.
-fn given(
-    m: u8,
-    n: u8,
-    next: u8,
-    urgent: u16,
-    long: u16,
-    r1: u16,
-    r2: u16,
-    open: bool,
-    index: u16,
-    k: Condition,
-) -> Station {
-    let mut resolution = [0u16; 8];
-    resolution[0] = r1;
-    resolution[1] = r2;
-    let mut opened = [true; 8];
-    opened[0] = open;
-    let c = Counters {
-        minislots: m,
-        groups: n,
-        next,
-        urgent,
-        long,
-        resolution,
-        opened,
-    };
-    let s = Station {
-        counters: c,
-        index,
-        condition: k,
-    };
-    text(b"given\n");
-    record_line(s);
-    s
+    start_line(answer);
+    r.station
 }
 
 fn offered(s: Station, bytes: usize) -> Station {
-    text(b"offer");
-    field(bytes as u64);
-    text(b"\n");
     let r = station::offer(s, bytes);
     let answer = r.answer;
-    let after = r.station;
     match answer {
-        OfferAnswer::Taken(total) => {
-            text(b"taken");
-            field8(total);
-            text(b"\n");
-        }
+        OfferAnswer::Taken(total) => taken_line(total),
         OfferAnswer::Refused(number) => refused_line(number),
     }
-    record_line(after);
-    after
+    r.station
 }
 
 fn slot_line(answer: SlotAnswer) {
@@ -109,279 +72,130 @@ fn slot_line(answer: SlotAnswer) {
     }
 }
 
-fn minislot_text(word: u16, count: u8) {
-    field16(word);
-    field8(count);
+// The words and the counts of a group that has them in turn, and how many minislots it has, 8 at most.
+fn words_of(head: Group) -> [u16; 8] {
+    let mut words = [0u16; 8];
+    let mut i: usize = 0;
+    while i < 8 {
+        words[i] = number16(head, 2 * i + 1);
+        i += 1;
+    }
+    words
 }
 
-fn pick_text(pick: u8) {
-    field8(pick);
-    text(b"\n");
+fn counts_of(head: Group) -> [u8; 8] {
+    let mut counts = [0u8; 8];
+    let mut i: usize = 0;
+    while i < 8 {
+        counts[i] = number8(head, 2 * i + 2);
+        i += 1;
+    }
+    counts
 }
 
-fn slot1(s: Station, w: u16, c: u8, pick: u8) -> Station {
-    text(b"slot");
-    minislot_text(w, c);
-    pick_text(pick);
-    let words = [w];
-    let counts = [c];
-    let r = station::slot(s, &words, &counts, pick);
+fn minislots_of(head: Group) -> usize
+    ensures { λ r. ⌜ r ≤ 8 ⌝ }
+{
+    count(head) / 2
+}
+
+// The last number of a group is the pick.
+fn slotted(s: Station, head: Group) -> Station {
+    let words = words_of(head);
+    let counts = counts_of(head);
+    let end = minislots_of(head);
+    let r = station::slot(
+        s,
+        &words[0..end],
+        &counts[0..end],
+        number8(head, count(head)),
+    );
     let answer = r.answer;
-    let after = r.station;
     slot_line(answer);
-    record_line(after);
-    after
-}
-
-fn slot2(s: Station, w: u16, c: u8, v: u16, d: u8, pick: u8) -> Station {
-    text(b"slot");
-    minislot_text(w, c);
-    minislot_text(v, d);
-    pick_text(pick);
-    let words = [w, v];
-    let counts = [c, d];
-    let r = station::slot(s, &words, &counts, pick);
-    let answer = r.answer;
-    let after = r.station;
-    slot_line(answer);
-    record_line(after);
-    after
-}
-
-fn slot3(s: Station, w: u16, c: u8, v: u16, d: u8, u: u16, e: u8, pick: u8) -> Station {
-    text(b"slot");
-    minislot_text(w, c);
-    minislot_text(v, d);
-    minislot_text(u, e);
-    pick_text(pick);
-    let words = [w, v, u];
-    let counts = [c, d, e];
-    let r = station::slot(s, &words, &counts, pick);
-    let answer = r.answer;
-    let after = r.station;
-    slot_line(answer);
-    record_line(after);
-    after
+    r.station
 }
 
 // A row of one recording.
-fn slot_at(s: Station, place: usize, pick: u8) -> Station {
-    text(b"slot_at");
-    field(place as u64);
-    pick_text(pick);
+fn slotted_at(s: Station, place: usize, pick: u8) -> Station {
     let words = [0u16, 0, 63, 95, 127, 0, 63];
     let counts = [0u8, 0, 1, 3, 1, 0, 0];
     let r = station::slot_at(s, &words, &counts, place, pick);
     let answer = r.answer;
-    let after = r.station;
     slot_line(answer);
-    record_line(after);
-    after
+    r.station
 }
 
-fn quiet(s: Station, pick: u8) -> Station {
-    slot2(s, 0, 0, 0, 0, pick)
+// ---- the cases
+
+fn called(s: Station, line: &[u8]) -> Station {
+    let head = group_at(line, 0);
+    text(line);
+    text(b"\n");
+    if begins(line, b"start") {
+        return begun(head);
+    }
+    if begins(line, b"offer") {
+        return offered(s, number(head, 1) as usize);
+    }
+    if begins(line, b"slot") {
+        return slotted(s, head);
+    }
+    slotted_at(s, number(head, 1) as usize, number8(head, 2))
 }
 
-// ---- every number
-
-fn starts() {
-    begin(2, 1, 0);
-    begin(8, 8, 923);
-    begin(1, 1, 0);
-    begin(9, 1, 0);
-    begin(2, 0, 0);
-    begin(2, 9, 0);
-    begin(2, 1, 924);
-    begin(1, 1, 924);
-}
-
-fn offers() {
-    offered(begin(3, 2, 7), 1);
-    offered(begin(3, 2, 7), 48);
-    offered(begin(3, 2, 7), 49);
-    offered(begin(3, 2, 7), 12240);
-    offered(begin(3, 2, 7), 0);
-    offered(begin(3, 2, 7), 12241);
-    let s = offered(begin(2, 1, 5), 49);
-    offered(s, 10);
-    offered(s, 0);
-}
-
-// 18 by one limit, tried by an offer of nothing to a station that is not free, and by a slot without a row or a pick.
-fn outside(s: Station) {
-    offered(s, 0);
-    slot1(s, 0, 0, 0);
-}
-
-fn outside_counters() {
-    let k = Condition::Fresh { total: 1 };
-    outside(given(2, 1, 0, 0, 0, 0, 0, true, 0, k));
-    outside(given(2, 1, 2, 0, 0, 0, 0, true, 0, k));
-    outside(given(2, 1, 1, 4096, 0, 0, 0, true, 0, k));
-    outside(given(2, 1, 1, 0, 0, 4096, 0, true, 0, k));
-    outside(given(2, 1, 1, 0, 0, 0, 1, true, 0, k));
-    outside(given(2, 1, 1, 0, 0, 0, 0, true, 924, k));
-}
-
-fn asked_in(group: u8, minislot: u8, total: u8) -> Condition {
-    Condition::Asked {
-        group,
-        minislot,
-        total,
+// The record of a line `given`.
+fn given(line: &[u8]) -> Station {
+    let head = group_at(line, 0);
+    let counters = counters_of(head);
+    let condition = condition_of(line, head.next);
+    Station {
+        counters,
+        index: number16(head, 9),
+        condition,
     }
 }
 
-fn resolving(group: u8, place: u16, total: u8) -> Condition {
-    Condition::Resolving {
-        group,
-        place,
-        total,
+// The record after a line that is no `keep` or `again`.
+fn after(s: Station, line: &[u8]) -> Station {
+    if begins(line, b"given") {
+        text(b"given\n");
+        return given(line);
     }
+    called(s, line)
 }
 
-fn stretch(first: u16, left: u8, total: u8) -> Condition {
-    Condition::Long { first, left, total }
+// One line.
+fn case(r: Records, line: &[u8]) -> Records {
+    let last = r.last;
+    let kept = r.kept;
+    if is_note(line) {
+        return r;
+    }
+    if begins(line, b"keep") {
+        return Records { last, kept: last };
+    }
+    if begins(line, b"again") {
+        return Records { last: kept, kept };
+    }
+    let s = after(last, line);
+    record_line(s);
+    Records { last: s, kept }
 }
 
-// One group, its RQ, H and N, and a condition that does not fit them.
-fn holding(urgent: u16, long: u16, r: u16, k: Condition) -> Station {
-    given(2, 1, 1, urgent, long, r, 0, true, 0, k)
-}
-
-fn outside_conditions() {
-    outside(holding(0, 0, 0, Condition::Fresh { total: 0 }));
-    outside(holding(0, 0, 0, asked_in(2, 1, 1)));
-    outside(holding(0, 0, 0, asked_in(1, 3, 1)));
-    outside(holding(0, 0, 1, resolving(1, 2, 1)));
-    outside(holding(1, 0, 0, Condition::Urgent { place: 2 }));
-    outside(holding(0, 5, 0, stretch(4, 3, 3)));
-    outside(holding(0, 5, 0, stretch(1, 4, 3)));
-    outside(holding(0, 5, 0, stretch(1, 1, 1)));
-}
-
-// 6, 11 and 1 to 4, each also where a later one would come.
-fn rows_refused() {
-    let s = begin(2, 1, 0);
-    slot1(s, 1, 0, 0);
-    slot3(s, 0, 0, 0, 0, 0, 0, 1);
-    quiet(s, 0);
-    slot2(s, 1, 0, 0, 0, 3);
-    slot2(s, 4096, 0, 1, 0, 1);
-    slot2(s, 31, 1, 4096, 0, 1);
-    slot2(s, 95, 0, 0, 0, 2);
-    slot2(s, 0, 0, 0, 1, 2);
-}
-
-// 7 at each limit, and not one below it; 7 before 12.
-fn limits_passed() {
-    let k = Condition::Free;
-    slot2(given(2, 1, 1, 4095, 0, 0, 0, true, 0, k), 95, 1, 111, 1, 1);
-    slot2(given(2, 1, 1, 4094, 0, 0, 0, false, 0, k), 95, 1, 0, 0, 1);
-    slot2(given(2, 1, 1, 4095, 0, 0, 0, true, 0, k), 95, 1, 0, 0, 1);
-    slot2(given(2, 1, 1, 0, 65535, 0, 0, true, 0, k), 0, 0, 95, 2, 1);
-    slot2(given(2, 1, 1, 0, 65533, 0, 0, true, 0, k), 0, 0, 95, 2, 1);
-    slot2(given(2, 1, 1, 0, 0, 4095, 0, true, 0, k), 127, 0, 0, 0, 1);
-    slot2(given(2, 1, 1, 0, 0, 4094, 0, true, 0, k), 127, 0, 0, 0, 1);
-    let asked = asked_in(1, 1, 1);
-    slot2(
-        given(2, 1, 1, 4095, 0, 0, 0, false, 0, asked),
-        95,
-        1,
-        0,
-        0,
-        1,
-    );
-}
-
-fn asked(next: u8) -> Station {
-    given(2, 2, next, 0, 0, 0, 0, true, 0, asked_in(1, 2, 3))
-}
-
-// 12: missing or foreign in its own minislot, or itself elsewhere; and each row that a station must take.
-fn own_hearing() {
-    quiet(asked(1), 1);
-    slot2(asked(1), 0, 0, 95, 3, 1);
-    slot2(asked(1), 0, 0, 63, 2, 1);
-    slot2(asked(1), 0, 0, 4032, 3, 1);
-    slot2(asked(1), 0, 0, 223, 0, 1);
-    slot2(asked(1), 0, 0, 4064, 1, 1);
-    slot2(asked(1), 0, 0, 254, 3, 1);
-    slot2(asked(1), 63, 3, 63, 3, 1);
-    slot2(asked(1), 63, 3, 0, 0, 1);
-    slot2(asked(1), 0, 0, 63, 3, 1);
-    slot2(asked(1), 0, 0, 127, 255, 1);
-    slot2(asked(1), 95, 1, 63, 3, 1);
-    quiet(asked(2), 1);
-    slot2(asked(2), 63, 3, 0, 0, 1);
-    slot2(asked(2), 0, 0, 127, 0, 1);
-    slot2(begin(2, 1, 0), 63, 1, 0, 0, 1);
-    slot2(begin(2, 1, 0), 127, 1, 95, 1, 1);
-}
-
-// ---- lives
-
-fn immediate_success() {
-    let asked = quiet(offered(begin(2, 1, 0), 10), 2);
-    slot2(asked, 0, 0, 63, 1, 1);
-}
-
-fn collision_then_urgent() {
-    let asked = quiet(offered(begin(2, 1, 0), 48), 1);
-    let again = slot2(asked, 127, 1, 0, 0, 2);
-    let urgent = slot2(again, 95, 1, 63, 1, 1);
-    quiet(urgent, 1);
-}
-
-// A message of three slots; an urgent one of another station comes between its first and its second.
-fn long_preempted() {
-    let asked = quiet(offered(begin(2, 1, 0), 100), 1);
-    let long = slot2(asked, 63, 3, 0, 0, 1);
-    let waits = slot2(long, 95, 1, 0, 0, 1);
-    let last = quiet(waits, 1);
-    quiet(last, 1);
-}
-
-// Two groups: behind another stretch, behind another place of a resolution queue, and a fresh message that must wait.
-fn second_in_line() {
-    let asked = quiet(offered(begin(2, 2, 1), 97), 2);
-    let other = slot2(asked, 127, 0, 0, 0, 1);
-    let behind = slot2(other, 63, 2, 95, 3, 1);
-    let first = quiet(behind, 1);
-    quiet(first, 1);
-    let queued = given(2, 2, 1, 0, 0, 2, 0, false, 1, resolving(1, 2, 1));
-    let moved = quiet(queued, 2);
-    let same = quiet(moved, 2);
-    quiet(same, 2);
-    quiet(
-        given(2, 1, 1, 0, 0, 1, 0, false, 1, Condition::Fresh { total: 1 }),
-        1,
-    );
-}
-
-fn recordings() {
-    let s = slot_at(offered(begin(2, 1, 0), 10), 0, 1);
-    slot_at(s, 2, 1);
-    slot_at(s, 3, 1);
-    slot_at(s, 4, 2);
-    slot_at(s, 5, 1);
-    slot_at(s, 6, 1);
-    slot_at(s, 7, 1);
-    slot_at(s, 18446744073709551615, 1);
-    slot_at(s, 5, 3);
+fn cases(bytes: &[u8], r: Records) {
+    let mut r = r;
+    let mut at: usize = 0;
+    while at < bytes.len() {
+        let end = line_end(bytes, at);
+        r = case(r, &bytes[at..end]);
+        at = end + 1;
+    }
 }
 
 fn main() {
-    starts();
-    offers();
-    outside_counters();
-    outside_conditions();
-    rows_refused();
-    limits_passed();
-    own_hearing();
-    immediate_success();
-    collision_then_urgent();
-    long_preempted();
-    second_in_line();
-    recordings();
+    let mut space = io::large_buffer();
+    let n = io::read_full(STDIN_FILENO, &mut space);
+    let started = station::start(2, 1, 0);
+    let s = started.station;
+    cases(&space[..n], Records { last: s, kept: s });
 }

@@ -21,7 +21,7 @@ less-one-requires : tie.Need-less-one-requires
 less-one-requires c κs = search needs
 
 cast-resolution : tie.Need-cast-resolution
-cast-resolution c = omega (arith, c .less-one .ensures, none-passes _ (c .before .before .before .before .before .pre .2))
+cast-resolution c = omega (arith, c .less-one .ensures, none-passes _ (c .before .before .before .before .before .pre .1))
 
 mul-resolution : tie.Need-mul-resolution
 mul-resolution c = search needs
@@ -42,13 +42,13 @@ urgent-falls-requires : tie.Need-urgent-falls-requires
 urgent-falls-requires c κs = search needs
 
 cast-t9 : tie.Need-cast-t9
-cast-t9 c = omega (arith, c .urgent-falls .ensures, urgent-falls-most (c .before .before .before .before .before .before .before .turn .result) (c .before .before .before .before .before .before .before .before .args .p .urgent), none-passes _ (c .before .before .before .before .before .before .before .before .pre .2))
+cast-t9 c = omega (arith, c .urgent-falls .ensures, urgent-falls-most (c .before .before .before .before .before .before .before .turn .result) (c .before .before .before .before .before .before .before .before .args .p .urgent), none-passes _ (c .before .before .before .before .before .before .before .before .pre .1))
 
 long-falls-requires : tie.Need-long-falls-requires
 long-falls-requires c κs = search needs
 
 cast-t17 : tie.Need-cast-t17
-cast-t17 c = omega (arith, c .long-falls .ensures, long-falls-most (c .before .before .before .before .before .before .before .before .turn .result) (c .before .before .before .before .before .before .before .before .before .args .p .long), none-passes _ (c .before .before .before .before .before .before .before .before .before .pre .2))
+cast-t17 c = omega (arith, c .long-falls .ensures, long-falls-most (c .before .before .before .before .before .before .before .before .turn .result) (c .before .before .before .before .before .before .before .before .before .args .p .long), none-passes _ (c .before .before .before .before .before .before .before .before .before .pre .1))
 
 returns : tie.Need-returns
 unfolding fallen

@@ -36,7 +36,7 @@ returns c =
     let h : Fits w16 (getD (k .resolution) (k .next - 1) 0) = search needs in
     let u : Fits w16 (k .urgent) = search needs in
     let n : Fits w16 (k .long) = search needs in
-    (refl, omega arith, omega arith, omega arith)
+    (refl, record { urgent = omega arith; long = omega arith; resolution = omega arith })
 
 pub places-of-spec : {M : Type 1} → statement M
 places-of-spec =

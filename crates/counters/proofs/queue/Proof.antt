@@ -23,10 +23,10 @@ returns : tie.Need-returns
 returns c = search needs
 
 returns-2 : tie.Need-returns-2
-returns-2 c = (rw (c .before .before .f .given .1) (c .queue-single .ensures .0), omega arith, omega arith, omega arith)
+returns-2 c = (rw (c .before .before .f .given .1) (c .queue-single .ensures .0), c .queue-single .ensures .1)
 
 returns-3 : tie.Need-returns-3
-returns-3 c = (rw (c .before .enum-told2 .given .1), omega arith, omega arith, omega arith)
+returns-3 c = (rw (c .before .enum-told2 .given .1), record { urgent = omega arith; long = omega arith; resolution = omega arith })
 
 pub queue-spec : {M : Type 1} → statement M
 queue-spec =

@@ -1,4 +1,4 @@
--- `follow_input` is safe and ends. The measure is the number of turns that are left; nothing has to hold from turn to turn.
+-- `follow_input` is safe and ends. The measure is the number of rounds that are left; nothing has to hold from round to round.
 -- Assumes nothing.
 use native.Mathlib.Omega.{arith}
 use borrow.Author.Needs.{needs}
@@ -6,10 +6,10 @@ use Rattle.follow.proofs.follow_input.Statement.{statement}
 use Rattle.follow.proofs.follow_input.Tie as tie
 
 abbrev Inv-loop : tie.InvT-loop
-Inv-loop fd name input₀ out₀ at s₀ turns₀ input out s turns = Unit {0}
+Inv-loop fd name input₀ out₀ at s₀ rounds₀ input out s rounds = Unit {0}
 
 abbrev μ-loop : tie.MeasureT-loop
-μ-loop fd name input₀ out₀ at s₀ turns₀ input out s turns = turns
+μ-loop fd name input₀ out₀ at s₀ rounds₀ input out s rounds = rounds
 
 large-buffer-requires : tie.Need-large-buffer-requires Inv-loop μ-loop
 large-buffer-requires c κs = search needs
@@ -32,11 +32,11 @@ begin-requires c κs = search needs
 loop-holds : tie.Need-loop-holds Inv-loop μ-loop
 loop-holds c = tt
 
-turn-requires : tie.Need-turn-requires Inv-loop μ-loop
-turn-requires c κs = search needs
+round-requires : tie.Need-round-requires Inv-loop μ-loop
+round-requires c κs = search needs
 
-sub-turns : tie.Need-sub-turns Inv-loop μ-loop
-sub-turns c = omega arith
+sub-rounds : tie.Need-sub-rounds Inv-loop μ-loop
+sub-rounds c = omega arith
 
 loop-less : tie.Need-loop-less Inv-loop μ-loop
 loop-less c = omega arith
@@ -63,8 +63,8 @@ follow-input-spec =
     put-header-requires
     begin-requires
     loop-holds
-    turn-requires
-    sub-turns
+    round-requires
+    sub-rounds
     loop-less
     loop-again
     returns

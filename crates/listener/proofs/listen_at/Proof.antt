@@ -1,9 +1,13 @@
--- `listen_at` gives 18, or what the row's reading leads to; and so it answers the paper's number and turn. Assumes nothing.
-use mathlib.Core.Path.{_∙_, sym}
+-- `listen_at` gives 18, a row's number, or what the row heard leads to; and so it answers the paper's number and turn. Assumes nothing.
+use mathlib.Core.Path.{_≡_, _∙_, sym, ap, subst}
 use lib.ListN.{take, drop}
 use Rattle.minislot.specs.Row.{rowAtOf}
 use Rattle.rules.specs.Recorded.{listeningAtOf}
-use Rattle.rules.proofs.ListeningLaws.{listening-18, row-heard, listening-row}
+use Rattle.minislot.specs.declared.RowReading.{RowReading}
+use Rattle.rules.specs.Hearing.{feedbackOf, ReadRow}
+use Rattle.rules.specs.Listening.{refusedListening, listenOf}
+use Rattle.rules.proofs.ListeningLaws.{listening-18, listening-bad, listening-heard}
+use Rattle.rules.proofs.RowReads.{read-row}
 use Rattle.listener.proofs.Tells.{listens-at}
 use borrow.Author.Needs.{needs}
 use Rattle.listener.proofs.listen_at.Statement.{statement}
@@ -15,36 +19,53 @@ within-requires c κs = search needs
 read-row-at-requires : tie.Need-read-row-at-requires
 read-row-at-requires c κs = search needs
 
-hear-requires : tie.Need-hear-requires
-unfolding rowAtOf listeningAtOf
-hear-requires c κs =
-    let a = c .before .before .before .before .before .args in
-    let words = take (a .c .minislots) (drop (a .start) (a .words .now)) in
-    let counts = take (a .c .minislots) (drop (a .start) (a .counts .now)) in
-    let w = sym (c .before .before .within .ensures) ∙ c .before .if1 .taken in
-    (w, rw (c .read-row-at .ensures) (row-heard (a .c) words counts w))
+refused-requires : tie.Need-refused-requires
+refused-requires c κs = search needs
 
 returns : tie.Need-returns
 unfolding rowAtOf listeningAtOf
 returns c =
-    let a = c .before .before .before .before .before .before .args in
+    let a = c .before .before .before .before .before .before .before .before .args in
     let words = take (a .c .minislots) (drop (a .start) (a .words .now)) in
     let counts = take (a .c .minislots) (drop (a .start) (a .counts .now)) in
-    let w = sym (c .before .before .before .within .ensures) ∙ c .before .before .if1 .taken in
+    let e = c .before .before .before .read-row-at .ensures in
+    let w = sym (c .before .before .before .before .before .within .ensures) ∙ c .before .before .before .before .if1 .taken in
     listens-at (a .c) (a .words .now) (a .counts .now) _ (a .start)
-    (c .hear .ensures ∙ rw (c .before .read-row-at .ensures) (sym (listening-row (a .c) words counts w)))
+    (c .refused .ensures ∙ rw e (listening-bad (a .c) words counts w (λ z. c .before .if2 .taken (rw e z))))
 
-refused-requires : tie.Need-refused-requires
-refused-requires c κs = search needs
+listen-row-requires : tie.Need-listen-row-requires
+unfolding rowAtOf listeningAtOf
+listen-row-requires c κs =
+    let a = c .before .before .before .before .before .before .before .args in
+    let words = take (a .c .minislots) (drop (a .start) (a .words .now)) in
+    let counts = take (a .c .minislots) (drop (a .start) (a .counts .now)) in
+    let e = c .before .before .read-row-at .ensures in (
+      sym (c .before .before .before .before .within .ensures) ∙ c .before .before .before .if1 .taken,
+      rw e (read-row (a .c .minislots) words counts (rw e at (c .if2 .left))),
+    )
 
 returns-2 : tie.Need-returns-2
 unfolding rowAtOf listeningAtOf
 returns-2 c =
+    let a = c .before .before .before .before .before .before .before .before .args in
+    let words = take (a .c .minislots) (drop (a .start) (a .words .now)) in
+    let counts = take (a .c .minislots) (drop (a .start) (a .counts .now)) in
+    let e = c .before .before .before .read-row-at .ensures in
+    let w = sym (c .before .before .before .before .before .within .ensures) ∙ c .before .before .before .before .if1 .taken in
+    listens-at (a .c) (a .words .now) (a .counts .now) _ (a .start)
+    (c .listen-row .ensures ∙ rw e (listening-heard (a .c) words counts w (rw e at (c .before .if2 .left))))
+
+refused-requires-2 : tie.Need-refused-requires-2
+refused-requires-2 c κs = search needs
+
+returns-3 : tie.Need-returns-3
+unfolding rowAtOf listeningAtOf
+returns-3 c =
     let a = c .before .before .before .before .before .args in
     let words = take (a .c .minislots) (drop (a .start) (a .words .now)) in
     let counts = take (a .c .minislots) (drop (a .start) (a .counts .now)) in
     listens-at (a .c) (a .words .now) (a .counts .now) _ (a .start)
-    (c .refused .ensures ∙ sym (listening-18 (a .c) words counts (sym (c .before .before .within .ensures) ∙ c .before .if1 .left)))
+    (c .refused2 .ensures ∙ listening-18 (a .c) words counts (sym (c .before .before .within .ensures) ∙ c .before .if1 .left))
 
 pub listen-at-spec : {M : Type 1} → statement M
 listen-at-spec =
@@ -52,7 +73,9 @@ listen-at-spec =
     (tie.spec
     within-requires
     read-row-at-requires
-    hear-requires
-    returns
     refused-requires
-    returns-2)
+    returns
+    listen-row-requires
+    returns-2
+    refused-requires-2
+    returns-3)

@@ -155,7 +155,7 @@ module _ {M : Type 1} (𝓤 : URA M) (H : Heap 𝓤) (A : Atoms 𝓤) (W : Given
   exits is =
       qed W (‵ (fobs γ (R .coded .code (listened .counters))) ∷ ‵ (fbor κ (Body (mem R) b o γ)) ∷ ‵ (flft κ q) ∷ Lifetimes ∷ ‵ Both ∷ []) ∵
       suffices ! _ (ends-at 𝓤 H A lent′.ended stayed (lent′.clauses 𝓤 H A at-mem run) W (((κ, (κ₁, (κ₂, tt))), (q, (q₁, (q₂, tt))), tt, a, mach), tt) answer (listened .answer) (listened .counters, (tt, (tt, tt))) (tt, (tt, (tt, tt)))) $
-      says ! (refl, refl, listen-told h (words .now) (counts .now)) $ move ! (2 ∷ 3 ∷ []) $ join ! $ frame ! $
+      says ! (refl, listen-told h (words .now) (counts .now)) $ move ! (2 ∷ 3 ∷ []) $ join ! $ frame ! $
       feqI ! (List Val) (vptr b o ∷ []) (vptr b o ∷ []) refl $ fjoin3 ! $ fjoin ! $
       frame ! $ owned ! N.the-row (Is N.the-row) (EL.makes N.the-type N′.the-plain 𝓤 H A) (listened .answer) _ is $ done !
 

@@ -1,64 +1,45 @@
--- `listen_row` is steps 1 to 5, each by the function of its rule. Assumes nothing.
-use mathlib.Core.Path.{_∙_, sym}
+-- `listen_row` is steps 1 to 5: 7 where step 1 does not fit, else the turn and the record after. Assumes nothing.
+use mathlib.Core.Path.{_≡_, _∙_, sym, ap}
 use native.Mathlib.Omega.{arith}
-use lib.ListN.{take}
-use Rattle.minislot.specs.Row.{feedbackIn}
+use Rattle.rules.specs.declared.StepOne.{StepOne}
+use Rattle.rules.specs.Hearing.{feedbackOf}
+use Rattle.rules.specs.Listening.{heardNumberOf, listened, listenOf}
 use Rattle.rules.proofs.LimitLaws.{within-limits}
-use Rattle.rules.proofs.ListeningLaws.{places-are, listen-passes, listen-goes}
+use Rattle.rules.proofs.QueueingLaws.{fits-says, after-is}
 use borrow.Author.Needs.{needs}
 use Rattle.listener.proofs.listen_row.Statement.{statement}
 use Rattle.listener.proofs.listen_row.Tie as tie
 
-places-of-requires : tie.Need-places-of-requires
-places-of-requires c κs = let w = within-limits (c .before .args .c) (c .before .pre .0) in omega arith
-
-opened-of-requires : tie.Need-opened-of-requires
-opened-of-requires c κs = let w = within-limits (c .before .before .args .c) (c .before .before .pre .0) in omega arith
-
-immediate-success-requires : tie.Need-immediate-success-requires
-immediate-success-requires c κs = search needs
-
-queue-row-requires : tie.Need-queue-row-requires
-queue-row-requires c κs = let w = within-limits (c .before .before .before .before .args .c) (c .before .before .before .before .pre .0) in (w .minislots .1, c .before .before .places-of .ensures .1, c .before .before .places-of .ensures .2, c .before .before .places-of .ensures .3)
-
-passes-limit-requires : tie.Need-passes-limit-requires
-passes-limit-requires c κs = search needs
-
-refused-requires : tie.Need-refused-requires
-refused-requires c κs = search needs
-
-returns : tie.Need-returns
-returns c =
-    let row = take (c .before .before .before .before .before .before .before .before .args .c .minislots) (feedbackIn (c .before .before .before .before .before .before .before .before .args .row .minislots)) in
-    let after = places-are (c .before .before .before .before .before .before .before .before .args .c) row _ _ _ _ _ (c .before .before .before .before .before .before .places-of .ensures .0) (c .before .before .before .before .before .opened-of .ensures) (c .before .before .before .before .before .before .before .before .pre .1)
-    (c .before .before .before .before .immediate-success .ensures) (c .before .before .before .queue-row .ensures) in
-    c .refused .ensures ∙ listen-passes (c .before .before .before .before .before .before .before .before .args .c) row _ after (sym (c .before .before .passes-limit .ensures) ∙ c .before .if1 .taken)
+step-one-requires : tie.Need-step-one-requires
+step-one-requires c κs = (c .pre .0, c .pre .1 .weighed)
 
 turn-requires : tie.Need-turn-requires
 turn-requires c κs = search needs
 
 fall-requires : tie.Need-fall-requires
-fall-requires c κs = let w = within-limits (c .before .before .before .before .before .before .before .before .args .c) (c .before .before .before .before .before .before .before .before .pre .0) in (w .next .0, omega arith, sym (c .before .before .passes-limit .ensures) ∙ c .before .if1 .left)
+fall-requires c κs =
+    let a = c .before .before .before .before .args in
+    let q = c .before .before .before .before .pre in
+    let s = c .before .before .before .step-one .ensures in
+    let row = feedbackOf (a .c .minislots) (a .row) in
+    let w = within-limits (a .c) (q .0) in
+    ((w .next .0, omega arith), rw (s, after-is (a .c) row) (fits-says (a .c) row (ap (λ (o : StepOne). o .fits) (sym s) ∙ c .before .if1 .taken)))
+
+returns : tie.Need-returns
+unfolding listenOf heardNumberOf listened
+returns c =
+    let a = c .before .before .before .before .before .args in
+    let s = c .before .before .before .before .step-one .ensures in
+    rw (c .before .turn .ensures, c .fall .ensures, s, ap (λ (o : StepOne). o .fits) (sym s) ∙ c .before .before .if1 .taken)
+
+refused-requires : tie.Need-refused-requires
+refused-requires c κs = search needs
 
 returns-2 : tie.Need-returns-2
+unfolding listenOf heardNumberOf listened
 returns-2 c =
-    let row = take (c .before .before .before .before .before .before .before .before .before .args .c .minislots) (feedbackIn (c .before .before .before .before .before .before .before .before .before .args .row .minislots)) in
-    let after = places-are (c .before .before .before .before .before .before .before .before .before .args .c) row _ _ _ _ _ (c .before .before .before .before .before .before .before .places-of .ensures .0) (c .before .before .before .before .before .before .opened-of .ensures) (c .before .before .before .before .before .before .before .before .before .pre .1)
-    (c .before .before .before .before .before .immediate-success .ensures) (c .before .before .before .before .queue-row .ensures) in
-    rw (c .before .turn .ensures, c .fall .ensures)
-    (listen-goes (c .before .before .before .before .before .before .before .before .before .args .c) row _ after (sym (c .before .before .before .passes-limit .ensures) ∙ c .before .before .if1 .left))
+    let s = c .before .before .before .step-one .ensures in
+    rw (c .refused .ensures, ap (λ (o : StepOne). o .fits) (sym s) ∙ c .before .if1 .left)
 
 pub listen-row-spec : {M : Type 1} → statement M
-listen-row-spec =
-    tie.close
-    (tie.spec
-    places-of-requires
-    opened-of-requires
-    immediate-success-requires
-    queue-row-requires
-    passes-limit-requires
-    refused-requires
-    returns
-    turn-requires
-    fall-requires
-    returns-2)
+listen-row-spec = tie.close (tie.spec step-one-requires turn-requires fall-requires returns refused-requires returns-2)

@@ -60,6 +60,7 @@ use Rattle.listener.proofs.listen_lent.Symbol as callee-def
 use Rattle.listener.proofs.listen_lent.Symbol.{name as #listener·listen-lent}
 use Rattle.listener.proofs.listen_lent.Met as callee-thm
 use Rattle.listener_run.proofs.lent.Key.{name as #listener_run·lent}
+use Rattle.listener.specs.Lent.{leaves}
 use Rattle.listener.proofs.Slices.{Tokens, Slices, twice}
 use Rattle.listener_run.proofs.lent as lent′
 use Rattle.listener_run.proofs.lent.Statement as stated
@@ -109,7 +110,7 @@ module _ {M : Type 1} (𝓤 : URA M) (H : Heap 𝓤) (A : Atoms 𝓤) (W : Given
 
   -- what `listen_lent` says of its answer and of the record as it leaves it
   abbrev Said : ListenAnswer → Counters → Type 0
-  Said r z = (r ≡ listened .answer) × (z ≡ listened .counters) × (listenTold r ≡ listenToldOf h (words .now) (counts .now))
+  Said r z = (leaves r z ≡ listened) × (listenTold r ≡ listenToldOf h (words .now) (counts .now))
 
   abbrev result : Val
   result = LL.val D.the-type D′.the-laws listened
@@ -166,9 +167,9 @@ module _ {M : Type 1} (𝓤 : URA M) (H : Heap 𝓤) (A : Atoms 𝓤) (W : Given
         qed W (later (some (λ (r : ListenAnswer). (All ⊛ ‵ (N.the-row .own r (v ∷ []))) ⊛ raw (ensured 𝓤 H A callee′.ended (callee′.clauses 𝓤 H A at-mem run) (ν ∷ [], (κ₁, (κ₂, tt))) (loan, (words, (counts, tt))) tt r))) ∷ []) ∵
         updating ! $ await ! tt $ pick ! (λ r. split ! $ move ! (1 ∷ []) $
         use1 W (some (λ (zs : Counters × (Unit {0} × (Unit {0} × Unit {0}))). ‵ (lasts callee′.ended (ν ∷ [], (κ₁, (κ₂, tt))) (loan, (words, (counts, tt))) zs) ⊛ raw (fact 𝓤 (Said r (zs .0))))) (id⊢ 𝓤 _) $ pick ! (λ zs.
-        split ! $ move ! (1 ∷ []) $ heard ! (Said r (zs .0)) (λ e. fsplit ! $ rewrite ! 0 (λ (c : Counters). ‵ (fres δ (R .coded .code c))) (e .1) refl $
+        split ! $ move ! (1 ∷ []) $ heard ! (Said r (zs .0)) (λ e. fsplit ! $ rewrite ! 0 (λ (c : Counters). ‵ (fres δ (R .coded .code c))) (ap (λ (l : Listened). l .counters) (e .0)) refl $
         -- [the last record; …; the tokens and the answer]
-        move ! (2 ∷ []) $ split ! $ move ! (1 ∷ []) $ rewrite ! 0 (λ (x : ListenAnswer). ‵ (N.the-row .own x (v ∷ []))) (e .0) refl $ peeks ! N.the-row (Is N.the-row) (shows 𝓤 H A N.the-row) (listened .answer) (v ∷ []) (λ is.
+        move ! (2 ∷ []) $ split ! $ move ! (1 ∷ []) $ rewrite ! 0 (λ (x : ListenAnswer). ‵ (N.the-row .own x (v ∷ []))) (ap (λ (l : Listened). l .answer) (e .0)) refl $ peeks ! N.the-row (Is N.the-row) (shows 𝓤 H A N.the-row) (listened .answer) (v ∷ []) (λ is.
         drop ! $ at-once ! $ frame ! $ frame ! $ drop ! $ check ! is $ done !))))
 
   -- the parts that came back, and the result that is made of them

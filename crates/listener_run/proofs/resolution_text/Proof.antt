@@ -1,4 +1,4 @@
--- `listener_run::resolution_text` is safe and ends: the group is one of the eight.
+-- `resolution_text` is safe and ends: the group is one of the eight.
 -- Assumes nothing.
 use Prim.Native.Nat.{_≤_, _-_}
 use borrow.Author.Needs.{needs}
@@ -20,17 +20,14 @@ text-requires c κs = search needs
 loop-holds : tie.Need-loop-holds Inv-loop μ-loop
 loop-holds c = search needs
 
-mul-wide : tie.Need-mul-wide Inv-loop μ-loop
-mul-wide c = search needs
+mul-field16 : tie.Need-mul-field16 Inv-loop μ-loop
+mul-field16 c = search needs
 
-array-read-wide : tie.Need-array-read-wide Inv-loop μ-loop
-array-read-wide c = search needs
+array-read-field16 : tie.Need-array-read-field16 Inv-loop μ-loop
+array-read-field16 c = search needs
 
-wide-requires : tie.Need-wide-requires Inv-loop μ-loop
-wide-requires c κs = search needs
-
-field-requires : tie.Need-field-requires Inv-loop μ-loop
-field-requires c κs = search needs
+field16-requires : tie.Need-field16-requires Inv-loop μ-loop
+field16-requires c κs = search needs
 
 add-g : tie.Need-add-g Inv-loop μ-loop
 add-g c = search needs
@@ -53,10 +50,9 @@ resolution-text-spec =
     slice-aggregate-text
     text-requires
     loop-holds
-    mul-wide
-    array-read-wide
-    wide-requires
-    field-requires
+    mul-field16
+    array-read-field16
+    field16-requires
     add-g
     loop-less
     loop-again

@@ -7,7 +7,9 @@ use native.Mathlib.Omega.{arith}
 use borrow.Author.Needs.{needs}
 use lib.Count.{ones}
 use lib.ListN.{getD}
-use Rattle.pattern.proofs.Patterns.{before, rank, no-index, pattern-of, index-in-halves}
+use Rattle.pattern.specs.Halves.{patternsBefore}
+use Rattle.pattern.proofs.Halves.{rank, index-in-halves}
+use Rattle.pattern.proofs.Patterns.{no-index, pattern-of}
 use Rattle.pattern.proofs.index_of.Statement.{statement}
 use Rattle.pattern.proofs.index_of.Tie as tie
 
@@ -36,15 +38,15 @@ array-read-result-2 : tie.Need-array-read-result-2
 array-read-result-2 c = search needs
 
 -- the sum of the two entries is an index
-sum-is : (w : ℕ) → w < 4096 → ones w ≡ 6 → getD before (w / 64) 0 + getD rank (w % 64) 0 < 924
+sum-is : (w : ℕ) → w < 4096 → ones w ≡ 6 → getD patternsBefore (w / 64) 0 + getD rank (w % 64) 0 < 924
 sum-is w h e = rw (index-in-halves w h e) (pattern-of w h e .0)
 
 add-result : tie.Need-add-result
-unfolding before rank
+unfolding patternsBefore rank
 add-result c = omega (arith, sum-is (c .before .before .args .word) (omega arith) (c .if2 .left))
 
 returns-3 : tie.Need-returns-3
-unfolding before rank
+unfolding patternsBefore rank
 returns-3 c = index-in-halves (c .before .before .args .word) (omega arith) (c .if2 .left)
 
 pub index-of-spec : {M : Type 1} → statement M

@@ -14,6 +14,9 @@ enum-known-f c = search needs
 enum-told-2 : tie.Need-enum-told-2
 enum-told-2 c = search needs
 
+word-of-requires : tie.Need-word-of-requires
+word-of-requires c κs = search needs
+
 contains-requires : tie.Need-contains-requires
 contains-requires c κs = search needs
 
@@ -27,7 +30,7 @@ returns-3 : tie.Need-returns-3
 returns-3 c = rw (c .before .before .f .given .1, ne-eqb _ _ (c .if1 .left))
 
 returns-4 : tie.Need-returns-4
-returns-4 c = c .contains .ensures ∙ rw (c .before .enum-told2 .given .1, c .before .before .before .pre)
+returns-4 c = c .contains .ensures ∙ rw (c .before .before .enum-told2 .given .1, c .before .word-of .ensures)
 
 pub hears-here-spec : {M : Type 1} → statement M
 hears-here-spec =
@@ -36,6 +39,7 @@ hears-here-spec =
     enum-told
     enum-known-f
     enum-told-2
+    word-of-requires
     contains-requires
     returns
     returns-2

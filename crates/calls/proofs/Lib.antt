@@ -1,0 +1,2 @@
+-- Laws of the table by value, for the calls.
+pub mod ByValue

@@ -1,3 +1,0 @@
-pub mod Blank
-mod Parts
-pub mod Laws

@@ -1,0 +1,69 @@
+-- `recording::rows` is safe and ends: after i rows of at most 8 minislots the place is at most 160 + 8 · i, and the recording has 480.
+-- Assumes nothing.
+use Prim.Native.Nat.{_+_, _*_, _≤_, _-_}
+use mathlib.Core.Path.{_≡_}
+use lib.ListN.{length}
+use borrow.Author.Needs.{needs}
+use Rattle.listener_run.proofs.recording.rows.Statement.{statement}
+use Rattle.listener_run.proofs.recording.rows.Tie as tie
+
+abbrev Inv-loop : tie.InvT-loop
+Inv-loop way n m words counts first c₀ width at₀ i₀ t14 c at i = (i ≤ 40) × ((at ≤ 160 + 8 * i) × ((width ≤ 8) × ((length words ≡ 480) × (length counts ≡ 480))))
+
+abbrev μ-loop : tie.MeasureT-loop
+μ-loop way n m words counts first c₀ width at₀ i₀ t14 c at i = 40 - i
+
+start-requires : tie.Need-start-requires Inv-loop μ-loop
+start-requires c κs = search needs
+
+loop-holds : tie.Need-loop-holds Inv-loop μ-loop
+loop-holds c = search needs
+
+add-end : tie.Need-add-end Inv-loop μ-loop
+add-end c = search needs
+
+heard-by-requires : tie.Need-heard-by-requires Inv-loop μ-loop
+heard-by-requires c κs = search needs
+
+way-text-requires : tie.Need-way-text-requires Inv-loop μ-loop
+way-text-requires c κs = search needs
+
+heard-text-requires : tie.Need-heard-text-requires Inv-loop μ-loop
+heard-text-requires c κs = search needs
+
+slice-aggregate-text : tie.Need-slice-aggregate-text Inv-loop μ-loop
+slice-aggregate-text c = search needs
+
+text-requires : tie.Need-text-requires Inv-loop μ-loop
+text-requires c κs = search needs
+
+add-i : tie.Need-add-i Inv-loop μ-loop
+add-i c = search needs
+
+loop-less : tie.Need-loop-less Inv-loop μ-loop
+loop-less c = search needs
+
+loop-again : tie.Need-loop-again Inv-loop μ-loop
+loop-again c = search needs
+
+returns : tie.Need-returns Inv-loop μ-loop
+returns c = search needs
+
+pub rows-spec : {M : Type 1} → statement M
+rows-spec =
+    tie.close
+    (tie.spec
+    Inv-loop
+    μ-loop
+    start-requires
+    loop-holds
+    add-end
+    heard-by-requires
+    way-text-requires
+    heard-text-requires
+    slice-aggregate-text
+    text-requires
+    add-i
+    loop-less
+    loop-again
+    returns)

@@ -1,0 +1,21 @@
+-- `refuse_offer` writes no record, and leaves the wire. Assumes nothing.
+use borrow.Author.Needs.{needs}
+use Rattle.table.specs.Loading.{blankOf}
+use Rattle.offers.proofs.refuse_offer.Statement.{statement}
+use Rattle.offers.proofs.refuse_offer.Tie as tie
+
+blanks-requires : tie.Need-blanks-requires
+blanks-requires c κs = search needs
+
+hold-requires : tie.Need-hold-requires
+hold-requires c κs = search needs
+
+refuse-requires : tie.Need-refuse-requires
+refuse-requires c κs = search needs
+
+returns : tie.Need-returns
+unfolding blankOf
+returns c = rw (c .refuse .ensures, c .before .hold .ensures, c .before .before .blanks .ensures)
+
+pub refuse-offer-spec : {M : Type 1} → statement M
+refuse-offer-spec = tie.close (tie.spec blanks-requires hold-requires refuse-requires returns)

@@ -1,0 +1,37 @@
+-- What an offer on a channel comes to, by its number (paper 01, "Offering on a channel"). Assumes nothing.
+use mathlib.Core.List.{List}
+use Prim.Native.Nat.{ℕ}
+use lib.ListN.{getD}
+use Rattle.message.specs.Message.{slotsFor}
+use Rattle.rules.specs.declared.Answer.the-variants.{Taken}
+use Rattle.rules.specs.declared.Station.{Station}
+use Rattle.rules.specs.declared.WireRow.{WireRow}
+use Rattle.rules.specs.Refusing.{byNumber}
+use Rattle.rules.specs.StationCalls.{withMessage}
+use Rattle.rules.specs.ChannelCalls.{ChannelResult, positionOf, channelOfferNumberOf}
+use Rattle.table.specs.Loading.{absent, of, blankOf, withOf, storeOf}
+use Rattle.calls.specs.ByValue.{channelOf, arrayTable, arrayChannel}
+use Rattle.calls.specs.Replies.{refusedReply}
+use Rattle.offers.specs.declared.Offered.{Offered}
+
+-- a refusal writes no record
+abbrev pub refusedOffered : List WireRow → ℕ → Offered
+refusedOffered wire n = record { loaded = blankOf 0; reply = refusedReply wire n }
+
+-- station k of n takes a message of this many bytes
+abbrev pub takenOf : List Station → ℕ → List WireRow → ℕ → ℕ → Offered
+takenOf stations n wire k bytes =
+    record {
+      loaded = withOf (of stations n) k (withMessage (getD stations k absent) bytes);
+      reply = record { answer = Taken (slotsFor bytes); wire = wire };
+    }
+
+-- on the first n records
+unfoldable pub offeredOf : List Station → ℕ → List WireRow → ℕ → ℕ → Offered
+offeredOf stations n wire index bytes =
+    byNumber (channelOfferNumberOf (arrayChannel stations n wire) index bytes) (refusedOffered wire)
+    (takenOf stations n wire (positionOf index (arrayTable stations n)) bytes)
+
+-- what is left once its records are written over the table
+abbrev pub offerLeft : List Station → Offered → ChannelResult
+offerLeft ys o = record { state = channelOf (storeOf ys (o .loaded)) (o .reply .wire); answer = o .reply .answer }

@@ -1,0 +1,135 @@
+// An offer on a channel: its number in order of checking, and what it comes to, on a copy of the table.
+use calls::CallReply;
+use calls::has_stations;
+use calls::refuse;
+use conditions::offering::taking;
+use rules::Answer;
+use rules::Condition;
+use rules::Station;
+use rules::WireRow;
+use soundness::sound;
+use station::with_condition;
+use table::Loaded;
+use table::blanks;
+use table::hold;
+ghost use mathlib.Core.Path.{_≡_};
+ghost use Prim.Native.Nat.{_≤_, _<_};
+ghost use lib.ListN.{getD, take};
+ghost use Rattle.rules.specs.StationCalls.{takingNumberOf};
+ghost use Rattle.rules.specs.ChannelCalls.{positionOf, channelOfferNumberOf};
+ghost use Rattle.table.specs.Loading.{absent};
+ghost use Rattle.calls.specs.ByValue.{arrayChannel};
+ghost use Rattle.offers.specs.Offering.{refusedOffered, takenOf, offeredOf};
+
+// What an offer comes to: the records to be written over the table (none where it is refused), and its reply.
+pub struct Offered {
+    pub loaded: Loaded,
+    pub reply: CallReply,
+}
+
+// ---- its number
+
+// How many of the first n stations stand before the first of an index; n if there is none.
+fn position_of(stations: [Station; 64], n: usize, index: u16) -> usize
+    requires { ⌜ n ≤ 64 ⌝ }
+    ensures { λ r. ⌜ r ≡ positionOf index (take n stations) ⌝ }
+{
+    let mut i: usize = 0;
+    while i < n {
+        let s = stations[i];
+        if s.index == index {
+            return i;
+        }
+        i += 1;
+    }
+    n
+}
+
+// The number of an offer on the first n of the records, 0 where it goes through: 14, 18, 16, 9, 10.
+pub fn offer_number(
+    stations: [Station; 64],
+    n: usize,
+    wire: [WireRow; 8],
+    index: u16,
+    bytes: usize,
+) -> u8
+    ensures { λ r. ⌜ r ≡ channelOfferNumberOf (arrayChannel stations n wire) index bytes ⌝ }
+{
+    if !has_stations(n) {
+        return 14;
+    }
+    if !sound(stations, n, wire) {
+        return 18;
+    }
+    let k = position_of(stations, n, index);
+    if n <= k {
+        return 16;
+    }
+    let s = stations[k];
+    let condition = s.condition;
+    let taken = taking(condition, bytes);
+    taken.number
+}
+
+// ---- what it comes to
+
+fn refuse_offer(wire: [WireRow; 8], number: u8) -> Offered
+    ensures { λ r. ⌜ r ≡ refusedOffered wire number ⌝ }
+{
+    Offered {
+        loaded: hold(blanks(), 0),
+        reply: refuse(wire, number),
+    }
+}
+
+// Station k of the first n takes a message.
+fn take_message(
+    stations: [Station; 64],
+    n: usize,
+    wire: [WireRow; 8],
+    k: usize,
+    bytes: usize,
+) -> Offered
+    requires { ⌜ (k < 64) × (takingNumberOf (getD stations k absent .condition) bytes ≡ 0) ⌝ }
+    ensures { λ r. ⌜ r ≡ takenOf stations n wire k bytes ⌝ }
+{
+    let s = stations[k];
+    let condition = s.condition;
+    let taken = taking(condition, bytes);
+    let total = taken.total;
+    let mut after = stations;
+    after[k] = with_condition(s, Condition::Fresh { total });
+    Offered {
+        loaded: hold(after, n),
+        reply: CallReply {
+            answer: Answer::Taken(total),
+            wire,
+        },
+    }
+}
+
+// An offer on the first n of the records.
+pub fn offer(
+    stations: [Station; 64],
+    n: usize,
+    wire: [WireRow; 8],
+    index: u16,
+    bytes: usize,
+) -> Offered
+    ensures { λ r. ⌜ r ≡ offeredOf stations n wire index bytes ⌝ }
+{
+    let number = offer_number(stations, n, wire, index, bytes);
+    if number != 0 {
+        return refuse_offer(wire, number);
+    }
+    let k = position_of(stations, n, index);
+    take_message(stations, n, wire, k, bytes)
+}
+
+// The same on a table that was loaded.
+pub fn place_offer(d: Loaded, wire: [WireRow; 8], index: u16, bytes: usize) -> Offered
+    ensures { λ r. ⌜ r ≡ offeredOf (d .stations) (d .count) wire index bytes ⌝ }
+{
+    let stations = d.stations;
+    offer(stations, d.count, wire, index, bytes)
+}

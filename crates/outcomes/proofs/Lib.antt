@@ -1,0 +1,2 @@
+pub mod Minislots
+pub mod Fitting

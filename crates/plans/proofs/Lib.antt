@@ -1,2 +1,0 @@
--- Laws of the definitions that the loops build up.
-pub mod Parts

@@ -1,0 +1,54 @@
+-- One station's slot by the slot's outcome: all that a station does after the checks (paper 01, "One slot of group g", 1 and 3 to 5).
+-- Assumes nothing.
+use mathlib.Core.Bool.{Bool, cond}
+use mathlib.Core.List.{List}
+use Prim.Native.Nat.{ℕ, _-_}
+use lib.Dec.{eqb}
+use lib.ListN.{getD}
+use Rattle.rules.specs.declared.Acted.{Acted}
+use Rattle.rules.specs.declared.Landed.{Landed}
+use Rattle.rules.specs.declared.Outcome.{Outcome}
+use Rattle.rules.specs.declared.Station.{Station}
+use Rattle.rules.specs.declared.StationSlot.{StationSlot}
+use Rattle.rules.specs.declared.SlotAnswer.the-variants.{Went}
+use Rattle.rules.specs.StationLimits.{Condition, Free, Fresh, Asked, Resolving, Urgent, Long}
+use Rattle.rules.specs.Landing.{Gone, at, stands}
+use Rattle.rules.specs.Requesting.{requests, requested}
+use Rattle.rules.specs.Serving.{sends, moved}
+
+-- step 1: a message that asked in the slot's group g stands where its minislot lands it
+unfoldable pub settledIn : List Landed → ℕ → Condition → Condition
+settledIn landed g Free = Free
+settledIn landed g (Fresh t) = Fresh t
+settledIn landed g (Asked h j t) = cond (eqb h g) (stands g (getD landed (j - 1) (at Gone) .landing) t) (Asked h j t)
+settledIn landed g (Resolving h i t) = Resolving h i t
+settledIn landed g (Urgent i) = Urgent i
+settledIn landed g (Long f l t) = Long f l t
+
+-- the minislot of a request, 0 for none
+abbrev pub requestMinislot : Bool → ℕ → ℕ
+requestMinislot requesting pick = cond requesting pick 0
+
+-- steps 3 to 5, from the condition k after step 1
+abbrev pub actsAfter : Outcome → Condition → ℕ → Acted
+actsAfter o k pick =
+    record {
+      condition = moved (o .turn) (requested (o .resolution) (o .group) pick k);
+      minislot = requestMinislot (requests (o .resolution) (o .group) k) pick;
+      segment = sends (o .turn) (o .resolution) (o .group) k;
+    }
+
+-- what a condition does in a slot, its counters kept elsewhere
+unfoldable pub actsOf : Outcome → Condition → ℕ → Acted
+actsOf o k pick = actsAfter o (settledIn (o .landed) (o .group) k) pick
+
+abbrev pub withActed : Outcome → Station → Acted → StationSlot
+withActed o s x =
+    record {
+      answer = Went (o .turn) (x .minislot) (x .segment);
+      station = record { counters = o .counters; index = s .index; condition = x .condition };
+    }
+
+-- A STATION'S STEP
+unfoldable pub stepOf : Outcome → Station → ℕ → StationSlot
+stepOf o s pick = withActed o s (actsOf o (s .condition) pick)

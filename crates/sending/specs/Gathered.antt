@@ -1,0 +1,58 @@
+-- What the stations of a channel send in a slot, gathered one station after the other (paper 01, "One slot of group g", 3 and 4).
+-- Assumes nothing.
+use mathlib.Core.Bool.{cond}
+use Prim.Native.Nat.{ℕ, _+_}
+use lib.Dec.{eqb, ltb}
+use lib.ListN.{replicate}
+use Rattle.minislot.specs.Together.{Request, carries, silent, placed}
+use Rattle.rules.specs.declared.Sent.{Sent}
+use Rattle.rules.specs.declared.SlotAnswer.{SlotAnswer}
+use Rattle.rules.specs.declared.SlotAnswer.the-variants.{Went, Refused}
+use Rattle.rules.specs.declared.Station.{Station}
+use Rattle.rules.specs.declared.StationSlot.{StationSlot}
+use Rattle.rules.specs.Requesting.{totalOf}
+
+-- nobody has sent anything
+unfoldable pub silence : Sent
+silence = record { minislots = replicate 8 silent; senders = 0; index = 0; segment = 0 }
+
+-- the request of a station that has asked
+abbrev pub stationRequest : Station → Request
+stationRequest s = record { index = s .index; total = totalOf (s .condition) }
+
+-- one data sender more, counted up to 255
+unfoldable pub oneMore : ℕ → ℕ
+oneMore n = cond (ltb n 255) (n + 1) n
+
+-- a data sender joins: the first is named, as long as it is alone
+abbrev pub joinedBy : ℕ → ℕ → Sent → Sent
+joinedBy index segment sent =
+    record {
+      minislots = sent .minislots;
+      senders = oneMore (sent .senders);
+      index = cond (eqb (sent .senders) 0) index 0;
+      segment = cond (eqb (sent .senders) 0) segment 0;
+    }
+
+-- a station's data segment, 0 for none
+unfoldable pub withData : ℕ → ℕ → Sent → Sent
+withData index segment sent = cond (ltb 0 segment) (joinedBy index segment sent) sent
+
+-- a station's request in its minislot, 0 for none
+abbrev pub withRequest : ℕ → Station → Sent → Sent
+withRequest minislot s sent =
+    record {
+      minislots = placed minislot (carries (stationRequest s)) (sent .minislots);
+      senders = sent .senders;
+      index = sent .index;
+      segment = sent .segment;
+    }
+
+-- a refused slot sends nothing
+abbrev pub gatheredBy : Sent → Station → SlotAnswer → Sent
+gatheredBy sent s (Went turn minislot segment) = withRequest minislot s (withData (s .index) segment sent)
+gatheredBy sent s (Refused n) = sent
+
+-- ONE STATION'S SLOT joins those before it
+unfoldable pub gathered : Sent → StationSlot → Sent
+gathered sent r = gatheredBy sent (r .station) (r .answer)

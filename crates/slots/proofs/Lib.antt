@@ -1,0 +1,6 @@
+-- What a slot comes to, station after station, is the channel's definition.
+pub mod Numbers
+pub mod Goes
+pub mod Slot
+mod Copying
+mod Rows

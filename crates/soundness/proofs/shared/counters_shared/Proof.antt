@@ -1,0 +1,95 @@
+-- `counters_shared` compares one record's counters after the other with the first's: what is left of the table compares as the whole.
+-- Assumes nothing.
+use mathlib.Core.Path.{_≡_, refl, sym, ap, _∙_}
+use mathlib.Core.Bool.{Bool}
+use Prim.Native.Nat.{_-_, _≤_}
+use native.Mathlib.Omega.{arith}
+use borrow.Author.Needs.{needs}
+use borrow.Author.Tests.{not-true, not-false}
+use lib.ListN.{length, take, drop}
+use Rattle.rules.specs.declared.Counters.{Counters}
+use Rattle.rules.specs.declared.Station.{Station}
+use Rattle.listlaws.specs.Lists.{each}
+use Rattle.rules.specs.Soundness.{sameCounters, tableCounters, countersShared}
+use Rattle.listlaws.proofs.Loops.{first-rest, first-none, each-next, each-stop}
+use Rattle.soundness.proofs.Comparing.{blank, first-counters}
+use Rattle.soundness.proofs.shared.counters_shared.Statement.{statement}
+use Rattle.soundness.proofs.shared.counters_shared.Tie as tie
+
+abbrev alike : Counters → Station → Bool
+alike k s = sameCounters k (s .counters)
+
+abbrev Inv-loop : tie.InvT-loop
+Inv-loop count stations shared i₀ i = (i ≤ count) × (tableCounters (take count stations) ≡ shared) × (each (alike shared) (drop i (take count stations)) ≡ each (alike shared) (take count stations))
+
+abbrev μ-loop : tie.MeasureT-loop
+μ-loop count stations shared i₀ i = count - i
+
+array-copy-out-first : tie.Need-array-copy-out-first Inv-loop μ-loop
+array-copy-out-first c = search needs
+
+loop-holds : tie.Need-loop-holds Inv-loop μ-loop
+loop-holds c =
+    let a = c .before .before .args in
+    let w : length (a .t1) ≡ 64 = search needs in
+    (omega arith, first-counters (a .t1) (a .count) blank (omega arith) (omega arith), refl)
+
+mul-s : tie.Need-mul-s Inv-loop μ-loop
+mul-s c = search needs
+
+array-copy-out-s : tie.Need-array-copy-out-s Inv-loop μ-loop
+array-copy-out-s c = search needs
+
+same-counters-requires : tie.Need-same-counters-requires Inv-loop μ-loop
+same-counters-requires c κs = search needs
+
+returns : tie.Need-returns Inv-loop μ-loop
+unfolding countersShared
+returns c =
+    let l = c .before .before .before .before .before .loop in
+    let a = c .before .before .before .before .before .before .before .before .args in
+    let w : length (a .t1) ≡ 64 = search needs in
+    let e = first-rest (a .t1) (a .count) (omega arith) (l .i) blank (omega arith) in
+    sym (ap (λ (k : Counters). each (alike k) (take (a .count) (a .t1))) (l .inv .1) ∙ sym (l .inv .2) ∙ each-stop e (alike _) (sym (c .before .same-counters .ensures) ∙ not-true _ (c .if1 .taken)))
+
+add-i : tie.Need-add-i Inv-loop μ-loop
+add-i c = search needs
+
+loop-less : tie.Need-loop-less Inv-loop μ-loop
+loop-less c = search needs
+
+loop-again : tie.Need-loop-again Inv-loop μ-loop
+loop-again c =
+    let l = c .before .before .before .before .before .loop in
+    let a = c .before .before .before .before .before .before .before .before .args in
+    let w : length (a .t1) ≡ 64 = search needs in
+    let e = first-rest (a .t1) (a .count) (omega arith) (l .i) blank (omega arith) in (
+      omega arith,
+      l .inv .1,
+      sym (each-next e (alike _) (sym (c .before .same-counters .ensures) ∙ not-false _ (c .if1 .left))) ∙ l .inv .2,
+    )
+
+returns-2 : tie.Need-returns-2 Inv-loop μ-loop
+unfolding countersShared
+returns-2 c =
+    let l = c .before .loop in
+    let a = c .before .before .before .before .args in
+    let w : length (a .t1) ≡ 64 = search needs in
+    (rw (first-none (a .t1) (a .count) (omega arith) (l .i) (omega arith)) at (l .inv .2)) ∙ sym (ap (λ (k : Counters). each (alike k) (take (a .count) (a .t1))) (l .inv .1))
+
+pub counters-shared-spec : {M : Type 1} → statement M
+counters-shared-spec =
+    tie.close
+    (tie.spec
+    Inv-loop
+    μ-loop
+    array-copy-out-first
+    loop-holds
+    mul-s
+    array-copy-out-s
+    same-counters-requires
+    returns
+    add-i
+    loop-less
+    loop-again
+    returns-2)

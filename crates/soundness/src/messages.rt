@@ -1,0 +1,38 @@
+// The messages of a table, drawn out of its stations once.
+use rules::Condition;
+use rules::Station;
+use rules::TableMessage;
+ghost use mathlib.Core.Path.{_≡_};
+ghost use Prim.Native.Nat.{_≤_};
+ghost use lib.ListN.{take};
+ghost use Rattle.listlaws.specs.Lists.{padded};
+ghost use Rattle.rules.specs.Soundness.{messagesOf};
+ghost use Rattle.soundness.specs.Clauses.{noTableMessage};
+
+// Places that messages hold in a queue: the first `count` of the list.
+pub(crate) struct DrawnPlaces {
+    pub(crate) list: [u16; 64],
+    pub(crate) count: usize,
+}
+
+// Each station's own message, with the station's index.
+pub(crate) fn messages(stations: [Station; 64], count: usize) -> [TableMessage; 64]
+    requires { ⌜ count ≤ 64 ⌝ }
+    ensures { λ r. ⌜ r ≡ padded 64 noTableMessage (messagesOf (take count stations)) ⌝ }
+{
+    let mut list = [TableMessage {
+        index: 0,
+        condition: Condition::Free,
+    }; 64];
+    let mut i: usize = 0;
+    while i < count {
+        let s = stations[i];
+        let condition = s.condition;
+        list[i] = TableMessage {
+            index: s.index,
+            condition,
+        };
+        i += 1;
+    }
+    list
+}

@@ -1,0 +1,89 @@
+// All stations share m, n, next group, counters and Open marks.
+use crate::MOST_GROUPS;
+use rules::Counters;
+use rules::Station;
+ghost use mathlib.Core.Path.{_≡_};
+ghost use mathlib.Core.Bool.{Bool·beq};
+ghost use Prim.Native.Nat.{_≤_};
+ghost use lib.ListN.{take};
+ghost use Rattle.rules.specs.Soundness.{sameNumbers, sameMarks, sameCounters, countersShared};
+
+fn same_numbers(a: [u16; 8], b: [u16; 8]) -> bool
+    ensures { λ r. ⌜ r ≡ sameNumbers a b ⌝ }
+{
+    let mut i: usize = 0;
+    while i < MOST_GROUPS {
+        if a[i] != b[i] {
+            return false;
+        }
+        i += 1;
+    }
+    true
+}
+
+fn same_mark(x: bool, y: bool) -> bool
+    ensures { λ r. ⌜ r ≡ Bool·beq x y ⌝ }
+{
+    if x { y } else { !y }
+}
+
+fn same_marks(a: [bool; 8], b: [bool; 8]) -> bool
+    ensures { λ r. ⌜ r ≡ sameMarks a b ⌝ }
+{
+    let mut i: usize = 0;
+    while i < MOST_GROUPS {
+        let x = a[i];
+        let y = b[i];
+        if !same_mark(x, y) {
+            return false;
+        }
+        i += 1;
+    }
+    true
+}
+
+fn same_counters(a: Counters, b: Counters) -> bool
+    ensures { λ r. ⌜ r ≡ sameCounters a b ⌝ }
+{
+    if a.minislots != b.minislots {
+        return false;
+    }
+    if a.groups != b.groups {
+        return false;
+    }
+    if a.next != b.next {
+        return false;
+    }
+    if a.urgent != b.urgent {
+        return false;
+    }
+    if a.long != b.long {
+        return false;
+    }
+    let p = a.resolution;
+    let q = b.resolution;
+    if !same_numbers(p, q) {
+        return false;
+    }
+    let u = a.opened;
+    let v = b.opened;
+    same_marks(u, v)
+}
+
+pub(crate) fn counters_shared(stations: [Station; 64], count: usize) -> bool
+    requires { ⌜ (1 ≤ count) × (count ≤ 64) ⌝ }
+    ensures { λ r. ⌜ r ≡ countersShared (take count stations) ⌝ }
+{
+    let first = stations[0];
+    let shared = first.counters;
+    let mut i: usize = 0;
+    while i < count {
+        let s = stations[i];
+        let c = s.counters;
+        if !same_counters(shared, c) {
+            return false;
+        }
+        i += 1;
+    }
+    true
+}

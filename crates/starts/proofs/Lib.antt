@@ -1,0 +1,3 @@
+-- What a start comes to, written over the lent table, is the channel's definition.
+pub mod Numbers
+pub mod Begins

@@ -1,0 +1,3 @@
+pub mod Buffering
+pub mod Keeping
+pub mod Recordings
