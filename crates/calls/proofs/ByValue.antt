@@ -1,14 +1,15 @@
 -- The table by value: how many stations it has; that it is the first of the records; and that, of a table that was loaded, it is that table,
 -- or as long where there are more than 64. Assumes nothing.
-use mathlib.Core.Path.{_≡_, refl, sym, ap, _∙_}
+use mathlib.Core.Path.{_≡_, sym, ap, _∙_}
 use mathlib.Core.Bool.{Bool, true, false}
-use mathlib.Core.List.{List, [], _∷_, _++_, append-nil}
-use Prim.Native.Nat.{ℕ, zero, suc, _+_, _-_, _≤_, _<_}
+use mathlib.Core.List.{List, _++_, append-nil}
+use Prim.Native.Nat.{ℕ, _+_, _-_, _≤_, _<_}
 use native.Mathlib.Omega.{arith}
 use lib.ListN.{length, getD, take, replicate, length-append, length-take, length-replicate}
 use lib.Seq.{getD-take}
 use borrow.Author.Tests.{le-leb, lt-leb}
 use Rattle.listlaws.specs.Steps.{latter}
+use Rattle.listlaws.proofs.Beyond.{getD-any}
 use Rattle.listlaws.proofs.Steps.{length-allSteps}
 use Rattle.rules.specs.declared.Station.{Station}
 use Rattle.rules.specs.declared.WireRow.{WireRow}
@@ -28,12 +29,6 @@ few-true n e = between-bounds 1 n 64 e
 
 pub many-false : (n : ℕ) → 64 < n → between 1 n 64 ≡ false
 many-false n h = rw (le-leb 1 n (omega arith), lt-leb n 64 h)
-
--- an element is the same whatever stands for a missing one
-pub getD-any {ℓ} : {A : Type ℓ} (l : List A) (k : ℕ) (d e : A) → k < length l → getD l k d ≡ getD l k e
-getD-any [] k d e h = absurd (omega arith)
-getD-any (x ∷ l) zero d e h = refl
-getD-any (x ∷ l) (suc k) d e h = getD-any l k d e (omega arith)
 
 -- ---- the table
 

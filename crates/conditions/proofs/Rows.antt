@@ -4,10 +4,10 @@
 use mathlib.Core.Path.{_≡_, sym, _∙_}
 use mathlib.Core.Bool.{Bool, true, false}
 use mathlib.Core.List.{List}
-use Prim.Native.Nat.{ℕ, _+_, _≤_, _<_}
+use Prim.Native.Nat.{ℕ, _+_, _<_, min}
 use native.Mathlib.Omega.{arith}
-use lib.ListN.{length, getD, take, length-map, List·getD-map}
-use lib.Seq.{getD-take, length-take-le}
+use lib.ListN.{length, getD, take, length-map, length-take, List·getD-map}
+use lib.Seq.{getD-take}
 use Rattle.minislot.specs.declared.Feedback.{Feedback}
 use Rattle.minislot.specs.declared.Feedback.the-variants.{Empty}
 use Rattle.minislot.specs.declared.MinislotFeedback.{MinislotFeedback}
@@ -23,33 +23,33 @@ blank = record { feedback = Empty }
 abbrev pub first : ℕ → List MinislotFeedback → List Feedback
 first m row = take m (feedbackIn row)
 
-pub first-length : (m : ℕ) (row : List MinislotFeedback) → m ≤ length row → length (first m row) ≡ m
-first-length m row h = length-take-le m (feedbackIn row) (rw length-map h)
+pub first-length : (m : ℕ) (row : List MinislotFeedback) → length (first m row) ≡ min m (length row)
+first-length m row = length-take m (feedbackIn row) ∙ rw length-map
 
 pub feedback-at : (m n : ℕ) (row : List MinislotFeedback) → n < m → getD (first m row) n Empty ≡ getD row n blank .feedback
 feedback-at m n row h = getD-take m (feedbackIn row) n Empty h ∙ List·getD-map (λ (x : MinislotFeedback). x .feedback) row n blank
 
--- ---- a station's own hearing
+-- ---- a station's own hearing, in as many minislots as have both a word and a reading
 
-module _ (s : Station) (words : List ℕ) (row : List MinislotFeedback) (own total : ℕ) (full : s .counters .minislots ≤ length row) (worded : length words ≡ s .counters .minislots)
-    (mine : own ≡ ownMinislot (s .counters .next) (s .condition)) (slots : total ≡ ownTotal (s .condition)) where
+module _ (s : Station) (words : List ℕ) (row : List MinislotFeedback) (own total : ℕ) (mine : own ≡ ownMinislot (s .counters .next) (s .condition)) (slots : total ≡ ownTotal (s .condition)) where
   abbrev m : ℕ
   m = s .counters .minislots
 
-  here : (i : ℕ) (b : Bool) → i < m → hearsAt (s .index) own total (i + 1) (getD words i 0) (getD row i blank .feedback) ≡ b
-      → hearsAt (s .index) own total (1 + i) (getD words i 0) (getD (first m row) i Empty) ≡ b
+  abbrev Heard : ℕ → Bool → Type 0
+  Heard i b = hearsAt (s .index) own total (i + 1) (getD words i 0) (getD row i blank .feedback) ≡ b
+
+  here : (i : ℕ) (b : Bool) → i < m → Heard i b → hearsAt (s .index) own total (1 + i) (getD words i 0) (getD (first m row) i Empty) ≡ b
   here i b h e =
       let q : 1 + i ≡ i + 1 = omega arith in
       rw (q, feedback-at m i row h) e
 
-  pub misses : (i : ℕ) → i < m → hearsAt (s .index) own total (i + 1) (getD words i 0) (getD row i blank .feedback) ≡ false → false ≡ hearsItself s words (first m row)
+  pub misses : (i : ℕ) → i < min (min m (length words)) (length row) → Heard i false → false ≡ hearsItself s words (first m row)
   unfolding hearsItself
   misses i h e =
-      let q : i < length (first m row) = rw (first-length m row full) h in
-      rw (← mine, ← slots) (sym (hears-fails (s .index) own total 1 words (first m row) i (omega arith) q (here i false h e)))
+      rw (← mine, ← slots) (sym (hears-fails (s .index) own total 1 words (first m row) i (omega arith) (rw (first-length m row) (omega arith)) (here i false (omega arith) e)))
 
-  pub hears : ((i : ℕ) → i < m → hearsAt (s .index) own total (i + 1) (getD words i 0) (getD row i blank .feedback) ≡ true) → true ≡ hearsItself s words (first m row)
+  pub hears : ((i : ℕ) → i < min (min m (length words)) (length row) → Heard i true) → true ≡ hearsItself s words (first m row)
   unfolding hearsItself
   hears all =
-      let l : length (first m row) ≡ m = first-length m row full in
-      rw (← mine, ← slots) (sym (hears-holds (s .index) own total 1 words (first m row) (worded ∙ sym l) (λ i q. here i true (omega arith) (all i (omega arith)))))
+      rw (← mine, ← slots)
+      (sym (hears-holds (s .index) own total 1 words (first m row) (λ i w q. let l : i < min m (length row) = rw (first-length m row) at q in here i true (omega arith) (all i (omega arith)))))

@@ -4,8 +4,8 @@ use minislot::MinislotFeedback;
 use rules::Condition;
 use rules::Station;
 ghost use mathlib.Core.Path.{_≡_};
-ghost use Prim.Native.Nat.{_≤_};
-ghost use lib.ListN.{length, take};
+ghost use Prim.Native.Nat.{min};
+ghost use lib.ListN.{take};
 ghost use Rattle.pattern.specs.Ones.{containsOnes};
 ghost use Rattle.minislot.specs.Row.{feedbackIn};
 ghost use Rattle.rules.specs.OwnHearing.{ownMinislot, ownTotal, hearsHere, hearsElsewhere, hearsAt, hearsItself};
@@ -81,17 +81,27 @@ fn hears_at(index: u16, own: u8, total: u8, j: u8, word: u16, f: Feedback) -> bo
     }
 }
 
+// How many of m minislots are heard: those that have a word, and no more than a row holds.
+fn heard(m: u8, words: usize) -> u8
+    ensures { λ r. ⌜ r ≡ min (min m words) 8 ⌝ }
+{
+    let most = if m < 8 { m } else { 8 };
+    if words < most as usize {
+        return words as u8;
+    }
+    most
+}
+
 // What a station must hear of itself in a row: its words, and what they read as.
 pub fn hears_itself(s: Station, words: &[u16], row: [MinislotFeedback; 8]) -> bool
-    requires { ⌜ (s .counters .minislots ≤ 8) × (length (now words) ≡ s .counters .minislots) ⌝ }
     ensures { λ r. ⌜ r ≡ hearsItself s (now (words .entry)) (take (s .counters .minislots) (feedbackIn row)) ⌝ }
 {
-    let m = s.counters.minislots;
     let k = s.condition;
     let own = own_minislot(s.counters.next, k);
     let total = own_total(k);
+    let end = heard(s.counters.minislots, words.len());
     let mut j: u8 = 0;
-    while j < m {
+    while j < end {
         let i = j as usize;
         let slot = row[i];
         let f = slot.feedback;

@@ -8,10 +8,10 @@ use rules::Places;
 use rules::StepOne;
 use rules::Turn;
 ghost use mathlib.Core.Path.{_≡_};
-ghost use mathlib.Core.Bool.{true, false};
-ghost use Prim.Native.Nat.{_+_, _-_, _≤_};
+ghost use mathlib.Core.Bool.{false};
+ghost use Prim.Native.Nat.{_+_, _-_, _≤_, min};
 ghost use lib.Dec.{eqb};
-ghost use lib.ListN.{take};
+ghost use lib.ListN.{getD, take};
 ghost use Rattle.listlaws.specs.Every.{everyFrom};
 ghost use Rattle.minislot.specs.Row.{weight, feedbackIn};
 ghost use Rattle.rules.specs.Hearing.{feedbackOf};
@@ -151,28 +151,39 @@ fn opened_within(n: u8, opened: [bool; 8]) -> bool
     true
 }
 
+// The place of a group in an array with an element for each: group 0, which is none, has the first one's.
+pub fn place_of(group: u8) -> usize
+    ensures { λ r. ⌜ r ≡ group - 1 ⌝ }
+{
+    if group < 1 { 0 } else { (group - 1) as usize }
+}
+
+// RQ of a group, 0 beyond the eight.
+pub fn resolution_of(c: Counters, group: u8) -> u16
+    ensures { λ r. ⌜ r ≡ getD (c .resolution) (group - 1) 0 ⌝ }
+{
+    let g = place_of(group);
+    if g < 8 { c.resolution[g] } else { 0 }
+}
+
 // The lengths that a slot of the next group works on.
 fn places_of(c: Counters) -> Places
-    requires { ⌜ NextGroup c ⌝ }
     ensures { λ r. ⌜ r ≡ placesOf c ⌝ }
     ensures fits { λ r. ⌜ Within 65535 r ⌝ }
 {
-    let g = (c.next - 1) as usize;
-    let r = c.resolution[g];
     Places {
         urgent: c.urgent as u32,
         long: c.long as u32,
-        resolution: r as u32,
+        resolution: resolution_of(c, c.next) as u32,
     }
 }
 
-// The next group's Open mark.
+// The next group's Open mark, false beyond the eight.
 fn opened_of(c: Counters) -> bool
-    requires { ⌜ NextGroup c ⌝ }
     ensures { λ r. ⌜ r ≡ openedOf c ⌝ }
 {
-    let g = (c.next - 1) as usize;
-    c.opened[g]
+    let g = place_of(c.next);
+    if g < 8 { c.opened[g] } else { false }
 }
 
 // Whether a Single of count 1 is immediate success, from the mark and the row's weight.
@@ -221,12 +232,19 @@ pub fn queue(success: bool, p: Places, f: Feedback) -> Places
     }
 }
 
+// How many of m minislots a row holds.
+pub fn held(m: u8) -> usize
+    ensures { λ r. ⌜ r ≡ min m 8 ⌝ }
+{
+    if m < 8 { m as usize } else { 8 }
+}
+
 // Step 1: the first m minislots of a row, in order.
 fn queue_row(success: bool, before: Places, row: [MinislotFeedback; 8], m: u8) -> Places
-    requires { ⌜ (m ≤ 8) × Within 65535 before ⌝ }
+    requires { ⌜ Within 65535 before ⌝ }
     ensures { λ r. ⌜ r ≡ queuedRow success before (take m (feedbackIn row)) ⌝ }
 {
-    let n = m as usize;
+    let n = held(m);
     let mut p = before;
     let mut j: usize = 0;
     while j < n {
@@ -254,7 +272,7 @@ fn passes_limit(p: Places) -> bool
 // Step 1 for whoever keeps these counters, by a row that was read: whether success is immediate, the lengths before and after, and whether
 // they fit.
 pub fn step_one(c: Counters, row: RowReading) -> StepOne
-    requires { ⌜ (withinLimits c ≡ true) × (row .weight ≡ weight (feedbackOf (c .minislots) row)) ⌝ }
+    requires { ⌜ row .weight ≡ weight (feedbackOf (c .minislots) row) ⌝ }
     ensures { λ r. ⌜ r ≡ stepOneOf c (feedbackOf (c .minislots) row) ⌝ }
 {
     let minislots = row.minislots;

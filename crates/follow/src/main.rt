@@ -1,26 +1,22 @@
 // Follows a recording: reads `m,n` and then rows of minislots, and prints the listener's counters after each slot.
 // It reads standard input, or the file that its first argument names, or, where that is the word `example`, a recording of its own.
-use follower::Follower;
-use follower::Progress;
 use follower::begin;
 use libc::STDIN_FILENO;
 use libc::STDOUT_FILENO;
 use lines::put_header;
+use rounds::Run;
+use rounds::Wants;
+use rounds::after_read;
+use rounds::after_write;
+use rounds::begin_run;
+use rounds::follow_round;
+use rounds::read_end;
 use stream::count_first;
 use stream::follow_buffered;
-use stream::keep_rest;
 
-// Where the run stands.
-struct Run {
-    follower: Follower,
-    // the bytes of the input buffer from here up to `filled` are still to be followed
-    from: usize,
-    filled: usize,
-    // no byte comes after those
-    ended: bool,
-    // the bytes of the output buffer before this place are still to be written
-    at: usize,
-    // there is more to do
+// A run after what it needed was done, and whether it goes on.
+struct Served {
+    run: Run,
     live: bool,
 }
 
@@ -34,56 +30,46 @@ fn flush(out: &[u8], at: usize) -> bool {
     is_written
 }
 
-// Reads on: the bytes that are left go to the front of the buffer, and new ones after them.
-fn refill(fd: i32, name: &[u8], s: Run, input: &mut [u8]) -> Run {
-    let kept = keep_rest(input, s.from, s.filled);
-    let got = libc::read(fd, &mut input[kept..]);
-    let is_read = got >= 0;
-    if !is_read {
-        os::fail(name);
+// Reads on, behind the bytes that are kept. Where that fails, what was followed is written before it is told.
+fn read_on(fd: i32, name: &[u8], s: Run, input: &mut [u8], out: &[u8]) -> Served {
+    let kept = count_first(s.filled, input);
+    let end = read_end(kept, input);
+    let got = libc::read(fd, &mut input[kept..end]);
+    if got < 0 {
+        if flush(out, s.at) {
+            os::fail(name);
+        }
+        return Served {
+            run: s,
+            live: false,
+        };
     }
     let more = io::count(got, input);
-    let follower = s.follower;
-    Run {
-        follower,
-        from: 0,
-        filled: kept + more,
-        ended: more == 0,
-        at: s.at,
-        live: is_read,
+    Served {
+        run: after_read(s, input, more),
+        live: true,
     }
 }
 
-// Follows what the input buffer holds, and then reads on, or writes what the output buffer holds.
-fn round(fd: i32, name: &[u8], s: Run, input: &mut [u8], out: &mut [u8]) -> Run {
-    let filled = count_first(s.filled, input);
-    let before = s.follower;
-    let n = follow_buffered(before, &input[..filled], s.from, s.ended, out, s.at);
-    let follower = n.follower;
-    let progress = n.progress;
-    if let Progress::More = progress {
-        let rest = Run {
-            follower,
-            from: n.next,
-            filled,
-            ended: false,
-            at: n.at,
-            live: true,
-        };
-        return refill(fd, name, rest, input);
-    }
-    let is_written = flush(out, n.at);
-    let mut live = false;
-    if let Progress::Went = progress {
-        live = is_written;
-    }
-    Run {
-        follower,
-        from: n.next,
-        filled,
-        ended: s.ended,
-        at: 0,
-        live,
+// Does what a run needs: reads on, or writes what the output buffer holds.
+fn serve(fd: i32, name: &[u8], s: Run, input: &mut [u8], out: &[u8]) -> Served {
+    let wants = s.wants;
+    match wants {
+        Wants::Read => read_on(fd, name, s, input, out),
+        Wants::Write => {
+            let live = flush(out, s.at);
+            Served {
+                run: after_write(s),
+                live,
+            }
+        }
+        Wants::End => {
+            flush(out, s.at);
+            Served {
+                run: s,
+                live: false,
+            }
+        }
     }
 }
 
@@ -94,19 +80,13 @@ fn follow_input(fd: i32, name: &[u8]) {
     let mut out_space = io::large_buffer();
     let input: &mut [u8] = &mut input_space;
     let out: &mut [u8] = &mut out_space;
-    let at = put_header(out, 0);
-    let mut s = Run {
-        follower: begin(),
-        from: 0,
-        filled: 0,
-        ended: false,
-        at,
-        live: true,
-    };
+    let mut s = begin_run(out);
     let mut rounds = u64::MAX;
     while 0 < rounds {
-        s = round(fd, name, s, input, out);
-        if s.live {
+        let followed = follow_round(s, input, out);
+        let served = serve(fd, name, followed, input, out);
+        s = served.run;
+        if served.live {
             rounds -= 1;
         } else {
             return;

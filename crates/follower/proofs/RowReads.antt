@@ -1,24 +1,33 @@
--- What a row's reading leads to, by the tests that the code makes of it in turn: the number, the field count, m above 8, and then listening.
+-- What a row's reading leads to, by the tests that the code makes of it in turn: the number, the field count, m above 8, and then listening;
+-- and what a row's number says.
 -- Assumes nothing.
-use mathlib.Core.Bool.{Bool, true, false, cond, _&&_}
+use mathlib.Core.Bool.{Bool, true, false, cond, not}
 use mathlib.Core.Path.{_≡_, refl, ap, sym, _∙_}
 use mathlib.Core.List.{List}
 use Prim.Native.Nat.{ℕ, _*_, _<_, _≤_}
 use native.Mathlib.Omega.{arith}
 use borrow.Author.Tests.{eq-eqb, ne-eqb}
+use lib.Dec.{eqb}
 use lib.ListN.{length, take, length-take}
-use Rattle.recording.specs.Fields.{wellFormed, fieldsOf}
-use Rattle.recording.specs.Row.{wordsOf, countsOf, withinRange, brokenRow, rowFrom, rowOf}
+use Rattle.minislot.specs.Row.{readings, firstNumber, feedbacks}
+use Rattle.minislot.proofs.Answers.{first-small}
+use Rattle.recording.specs.Fields.{fieldsOf}
+use Rattle.recording.specs.Row.{brokenRow, rowFrom, rowOf}
 use Rattle.recording.specs.declared.fields.RowFields.{RowFields}
 use Rattle.recording.proofs.RowLaws.{row-good, row-halves, Halves}
 use Rattle.rules.specs.declared.Counters.{Counters}
 use Rattle.rules.specs.declared.Listened.{Listened}
+use Rattle.rules.specs.Refusing.{unless, orNext}
 use Rattle.rules.specs.Limits.{withinLimits}
-use Rattle.rules.specs.Listening.{listeningOf}
+use Rattle.rules.specs.Queueing.{passes, stepOneOf, placesAfter}
+use Rattle.rules.specs.Listening.{refusedListening, listened, hasRow, heardNumberOf, listenNumberOf, listeningOf}
 use Rattle.rules.proofs.LimitLaws.{within-limits}
 use Rattle.rules.proofs.ListeningLaws.{listening-18}
+use Rattle.rules.proofs.Refusals.{by-ap, test-passed, none-found}
 use Rattle.follower.specs.declared.Follower.{Follower}
-use Rattle.follower.specs.Following.{refusedStep, listenedStep, fieldsStep, rowStep}
+use Rattle.follower.specs.RecordNumbers.{rowWords, rowCounts, isRow, hasFields, rowNumberOf}
+use Rattle.follower.specs.Following.{refusedStep, rowPlaces}
+use Rattle.follower.specs.Steps.{listenedStep, rowStep}
 
 -- as many as are taken are there
 pub take-whole : (m : ℕ) (l : List ℕ) → length (take m l) ≡ m → m ≤ length l
@@ -34,13 +43,12 @@ many-minislots c h = go (withinLimits c) refl
 
 module _ (f : Follower) (bytes : List ℕ) (row : RowFields) (read : row ≡ rowOf bytes) where
   pub row-refused : (row .number ≡ 0 → ⊥) → refusedStep f 19 ≡ rowStep f bytes
-  unfolding rowOf rowFrom rowStep
-  row-refused h = go (wellFormed bytes && withinRange (fieldsOf bytes)) (λ e. h (ap (λ (r : RowFields). r .number) read ∙ e))
+  unfolding rowOf rowFrom rowStep rowNumberOf
+  row-refused h = go (isRow bytes) refl
     where
-      go : (t : Bool) → (cond t (rowFrom (fieldsOf bytes)) brokenRow .number ≡ 0 → ⊥)
-          → refusedStep f 19 ≡ cond t (fieldsStep f (fieldsOf bytes)) (refusedStep f 19)
-      go true h = absurd (h refl)
-      go false h = refl
+      go : (t : Bool) → isRow bytes ≡ t → refusedStep f 19 ≡ rowStep f bytes
+      go true e = absurd (h (ap (λ (r : RowFields). r .number) read ∙ rw e))
+      go false e = rw e
 
   module _ (whole : row .number ≡ 0) where
     zero-number : rowOf bytes .number ≡ 0
@@ -50,31 +58,31 @@ module _ (f : Follower) (bytes : List ℕ) (row : RowFields) (read : row ≡ row
     unfolding rowFrom
     field-count = ap (λ (r : RowFields). r .fields) (read ∙ row-good bytes zero-number)
 
-    by-fields : fieldsStep f (fieldsOf bytes) ≡ rowStep f bytes
-    unfolding rowOf rowFrom brokenRow rowStep
-    by-fields = go (wellFormed bytes && withinRange (fieldsOf bytes)) zero-number
+    is-row : isRow bytes ≡ true
+    unfolding rowOf brokenRow
+    is-row = go (isRow bytes) zero-number
       where
-        go : (t : Bool) → cond t (rowFrom (fieldsOf bytes)) brokenRow .number ≡ 0
-            → fieldsStep f (fieldsOf bytes) ≡ cond t (fieldsStep f (fieldsOf bytes)) (refusedStep f 19)
+        go : (t : Bool) → cond t (rowFrom (fieldsOf bytes)) brokenRow .number ≡ 0 → t ≡ true
         go true e = refl
         go false e = absurd (omega arith)
 
     pub other-count : (row .fields ≡ f .counters .minislots * 2 → ⊥) → refusedStep f 6 ≡ rowStep f bytes
-    unfolding fieldsStep
+    unfolding rowStep rowNumberOf
     other-count h =
         let n : length (fieldsOf bytes) ≡ f .counters .minislots * 2 → ⊥ = λ e. h (field-count ∙ e) in
-        (rw (ne-eqb _ _ n)) ∙ by-fields
+        rw (is-row, ne-eqb _ _ n)
 
     module _ (count : row .fields ≡ f .counters .minislots * 2) where
-      by-listening : listenedStep f (listeningOf (f .counters) (wordsOf (fieldsOf bytes)) (countsOf (fieldsOf bytes))) ≡ rowStep f bytes
-      unfolding fieldsStep
+      by-listening : listenedStep f (listeningOf (f .counters) (rowWords bytes) (rowCounts bytes)) ≡ rowStep f bytes
+      unfolding listeningOf listened rowPlaces rowStep rowNumberOf
       by-listening =
           let n : length (fieldsOf bytes) ≡ f .counters .minislots * 2 = sym field-count ∙ count in
-          (rw (eq-eqb _ _ n)) ∙ by-fields
+          rw (is-row, eq-eqb _ _ n)
+          (by-ap (listenedStep f) (listenNumberOf (f .counters) (rowWords bytes) (rowCounts bytes)) (refusedListening (f .counters)) _)
 
       pub outside : 8 < f .counters .minislots → refusedStep f 18 ≡ rowStep f bytes
       outside h =
-          ap (listenedStep f) (listening-18 (f .counters) (wordsOf (fieldsOf bytes)) (countsOf (fieldsOf bytes)) (many-minislots (f .counters) h))
+          ap (listenedStep f) (listening-18 (f .counters) (rowWords bytes) (rowCounts bytes) (many-minislots (f .counters) h))
           ∙ by-listening
 
       module _ (few : f .counters .minislots ≤ 8) where
@@ -91,3 +99,54 @@ module _ (f : Follower) (bytes : List ℕ) (row : RowFields) (read : row ≡ row
             → heard ≡ listeningOf (f .counters) (take (f .counters .minislots) (row .words)) (take (f .counters .minislots) (row .counts))
             → listenedStep f heard ≡ rowStep f bytes
         heard-row heard e = rw (e, read, halves .words, halves .counts) by-listening
+
+-- ---- the numbers of a row's list are at most 19
+
+pub unless-low : (b : Bool) (n after : ℕ) → n ≤ 19 → after ≤ 19 → unless b n after ≤ 19
+unless-low true n after h l = l
+unless-low false n after h l = h
+
+next-low : (n after : ℕ) → n ≤ 19 → after ≤ 19 → orNext n after ≤ 19
+next-low n after h l = go (eqb n 0)
+  where
+    go : (b : Bool) → cond b after n ≤ 19
+    go true = l
+    go false = h
+
+listen-low : (c : Counters) (words counts : List ℕ) → listenNumberOf c words counts ≤ 19
+unfolding listenNumberOf heardNumberOf
+listen-low c words counts =
+    let row = feedbacks (readings words counts) in
+    unless-low (withinLimits c) 18 _ (omega arith)
+    (unless-low (hasRow (c .minislots) words counts) 6 _ (omega arith)
+    (next-low (firstNumber (readings words counts)) _ (omega (arith, first-small words counts))
+    (unless-low (stepOneOf c row .fits) 7 0 (omega arith) (omega arith))))
+
+pub row-low : (f : Follower) (bytes : List ℕ) → rowNumberOf f bytes ≤ 19
+unfolding rowNumberOf
+row-low f bytes =
+    unless-low (isRow bytes) 19 _ (omega arith)
+    (unless-low (hasFields f bytes) 6 _ (omega arith) (listen-low (f .counters) (rowWords bytes) (rowCounts bytes)))
+
+-- a row of number 0 has passed the test of the limits and step 1's
+heard-within : (c : Counters) (words counts : List ℕ) → listenNumberOf c words counts ≡ 0
+    → (withinLimits c ≡ true) × (passes (stepOneOf c (feedbacks (readings words counts)) .after) ≡ false)
+unfolding listenNumberOf heardNumberOf stepOneOf
+heard-within c words counts z =
+    let row = feedbacks (readings words counts) in
+    let p₁ = test-passed (withinLimits c) 18 _ refl z in
+    let p₂ = test-passed (hasRow (c .minislots) words counts) 6 _ refl (p₁ .1) in
+    let p₃ = none-found (firstNumber (readings words counts)) _ (p₂ .1) in
+    let p₄ = test-passed (not (passes (placesAfter c row))) 7 0 refl (p₃ .1) in
+    (p₁ .0, go (passes (placesAfter c row)) (p₄ .0))
+  where
+    go : (b : Bool) → not b ≡ true → b ≡ false
+    go true e = sym e
+    go false e = refl
+
+pub row-within : (f : Follower) (bytes : List ℕ) → rowNumberOf f bytes ≡ 0 → (withinLimits (f .counters) ≡ true) × (passes (rowPlaces f bytes) ≡ false)
+unfolding rowNumberOf rowPlaces
+row-within f bytes z =
+    let p₁ = test-passed (isRow bytes) 19 _ refl z in
+    let p₂ = test-passed (hasFields f bytes) 6 _ refl (p₁ .1) in
+    heard-within (f .counters) (rowWords bytes) (rowCounts bytes) (p₂ .1)

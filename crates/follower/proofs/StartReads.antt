@@ -9,7 +9,8 @@ use borrow.Author.Tests.{le-leb, lt-leb}
 use Rattle.rules.specs.Starting.{startNumberOf, startOf}
 use Rattle.rules.specs.Limits.{between}
 use Rattle.follower.specs.declared.Follower.{Follower}
-use Rattle.follower.specs.Following.{refusedStep, startedStep}
+use Rattle.follower.specs.Following.{refusedStep}
+use Rattle.follower.specs.Steps.{startedStep}
 
 and-false : (b : Bool) → (b && false) ≡ false
 and-false true = refl

@@ -1,7 +1,7 @@
 -- Following a whole recording, record after record (paper 01, "`follow`"): the record that begins at a place of the input, and all that is
 -- printed.
 use mathlib.Core.Bool.{Bool, true, false, cond}
-use mathlib.Core.List.{List, [], _∷_, _++_}
+use mathlib.Core.List.{List, [], _++_}
 use Prim.Native.Nat.{ℕ, zero, suc, _-_}
 use lib.Dec.{ltb}
 use lib.ListN.{length, take, drop}
@@ -10,6 +10,7 @@ use Rattle.lines.specs.Lines.{headerOf, placeAfter}
 use Rattle.recording.specs.declared.records.Cut.{Cut}
 use Rattle.recording.specs.declared.records.Cut.the-variants as cut
 use Rattle.follower.specs.declared.Follower.{Follower}
+use Rattle.follower.specs.declared.Followed.{Followed}
 use Rattle.follower.specs.declared.Step.{Step}
 use Rattle.follower.specs.declared.Line.{Line}
 use Rattle.follower.specs.declared.Line.the-variants.{Nothing, Row, Refusal}
@@ -19,11 +20,11 @@ use Rattle.follower.specs.declared.Progress.{Progress}
 use Rattle.follower.specs.declared.Progress.the-variants.{Went, More, Done, Refused}
 use Rattle.follower.specs.Following.{atBegin, bytesOf, followRecord, refusedStep}
 
--- a refusal ends the output
+-- what became of a record that led to this line: a refusal, with its number, ends the output
 abbrev pub progressOf : Line → Progress
 progressOf Nothing = Went
 progressOf (Row slot group letter urgent long resolution) = Went
-progressOf (Refusal number place) = Refused
+progressOf (Refusal number place) = Refused number
 
 -- a record that was followed, with the next one at place `next`
 abbrev pub stepAdvance : Step → ℕ → Advance
@@ -48,6 +49,12 @@ advanceBy f bytes start cut.Broken = stepAdvance (refusedStep f 19) start
 unfoldable pub advanceOf : Follower → List ℕ → ℕ → Bool → Advance
 advanceOf f bytes start ended = advanceBy f bytes start (cutOf bytes start ended)
 
+-- the answer where a step's line is put into a buffer from place `at` on
+abbrev pub followed : Step → List ℕ → ℕ → Followed
+followed s buffer at =
+    let after = placeAfter buffer at (bytesOf (s .line)) in
+    record { progress = progressOf (s .line); follower = s .follower; at = after }
+
 -- the answer where an advance's line is put into a buffer from place `at` on
 abbrev pub reached : Advance → List ℕ → ℕ → Next
 reached a buffer at =
@@ -59,15 +66,20 @@ abbrev pub goesOn : Progress → Bool
 goesOn Went = true
 goesOn More = false
 goesOn Done = false
-goesOn Refused = false
+goesOn (Refused number) = false
 
--- the lines of the records from place `start` of the input on, of k records at most: till the input ends or one is refused
-unfoldable pub linesFrom : ℕ → Follower → List ℕ → ℕ → List ℕ
-linesFrom zero f input start = []
-linesFrom (suc k) f input start =
-    let a = advanceOf f input start true in
-    bytesOf (a .line) ++ cond (goesOn (a .progress)) (linesFrom k (a .follower) input (a .next)) []
+-- the lines of the records from place `start` of the input on, of k records at most: till the input is used up or a record is refused;
+-- `ended`: no byte comes after it
+unfoldable pub linesFrom : Bool → ℕ → Follower → List ℕ → ℕ → List ℕ
+linesFrom ended zero f input start = []
+linesFrom ended (suc k) f input start =
+    let a = advanceOf f input start ended in
+    bytesOf (a .line) ++ cond (goesOn (a .progress)) (linesFrom ended k (a .follower) input (a .next)) []
 
 -- FOLLOWING A RECORDING: the header comes first. No input has more records than bytes.
 unfoldable pub followOf : List ℕ → List ℕ
-followOf input = headerOf ++ linesFrom (suc (length input)) atBegin input 0
+followOf input = headerOf ++ linesFrom true (suc (length input)) atBegin input 0
+
+-- what can be said of a recording so far, of which more may come: the header, and the lines of the records that are whole
+unfoldable pub soFarOf : List ℕ → List ℕ
+soFarOf input = headerOf ++ linesFrom false (suc (length input)) atBegin input 0

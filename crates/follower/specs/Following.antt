@@ -1,32 +1,26 @@
 -- Following one record of a recording (paper 01, "`follow`"): what the record leads to, and the bytes that are printed for it.
--- Bytes are numbers: letters are ASCII. A record is handed over without its CR LF.
-use mathlib.Core.Bool.{Bool, true, false, cond, _&&_}
-use mathlib.Core.List.{List, [], _∷_}
-use Prim.Native.Nat.{ℕ, _+_, _*_, _-_}
-use lib.Dec.{ltb, eqb}
-use lib.ListN.{length, getD}
-use Rattle.recording.specs.Fields.{wellFormed, fieldsOf}
-use Rattle.recording.specs.First.{firstOf}
-use Rattle.recording.specs.Row.{wordsOf, countsOf, withinRange}
-use Rattle.lines.specs.Lines.{lineOf, refusalOf, placeAfter}
-use Rattle.recording.specs.declared.fields.First.{First}
-use Rattle.recording.specs.declared.fields.First.the-variants as first
+-- Bytes are numbers: letters are ASCII. A record is handed over without its CR LF. Its number, if it is refused: specs/RecordNumbers.
+use mathlib.Core.Bool.{cond}
+use mathlib.Core.List.{List, []}
+use Prim.Native.Nat.{ℕ, _+_, _-_}
+use lib.Dec.{ltb}
+use lib.ListN.{getD}
+use Rattle.lines.specs.Lines.{lineOf, refusalOf}
+use Rattle.minislot.specs.Row.{readings, feedbacks}
 use Rattle.rules.specs.declared.Counters.{Counters}
-use Rattle.rules.specs.declared.Started.{Started}
-use Rattle.rules.specs.declared.StartAnswer.{StartAnswer}
-use Rattle.rules.specs.declared.StartAnswer.the-variants as start
-use Rattle.rules.specs.declared.Listened.{Listened}
-use Rattle.rules.specs.declared.ListenAnswer.{ListenAnswer}
-use Rattle.rules.specs.declared.ListenAnswer.the-variants as listen
-use Rattle.rules.specs.Starting.{startOf, noCounters}
-use Rattle.rules.specs.Listening.{listeningOf}
+use Rattle.rules.specs.declared.Places.{Places}
+use Rattle.rules.specs.Refusing.{byNumber}
+use Rattle.rules.specs.Starting.{startCounters, noCounters}
+use Rattle.rules.specs.Queueing.{stepOneOf}
+use Rattle.rules.specs.Falling.{fallen}
+use Rattle.rules.specs.Turns.{turnOf}
 use Rattle.rules.specs.declared.Turn.{Turn}
 use Rattle.rules.specs.declared.Turn.the-variants as turn
 use Rattle.follower.specs.declared.Follower.{Follower}
-use Rattle.follower.specs.declared.Followed.{Followed}
 use Rattle.follower.specs.declared.Step.{Step}
 use Rattle.follower.specs.declared.Line.{Line}
 use Rattle.follower.specs.declared.Line.the-variants.{Nothing, Row, Refusal}
+use Rattle.follower.specs.RecordNumbers.{firstMinislots, firstGroups, rowWords, rowCounts, recordNumberOf}
 
 -- before the first record: no listener has started, and record 1 is to come
 abbrev pub atBegin : Follower
@@ -57,18 +51,9 @@ refusedStep f number = record { follower = f; line = Refusal number (f .place) }
 abbrev pub wentStep : Follower → Counters → Line → Step
 wentStep f c line = record { follower = record { counters = c; place = placeFollowing (f .place) }; line = line }
 
--- starting a listener: it prints nothing, or its number (5)
-abbrev pub startedBy : Follower → StartAnswer → Counters → Step
-startedBy f start.Ready c = wentStep f c Nothing
-startedBy f (start.Refused number) c = refusedStep f number
-
-abbrev pub startedStep : Follower → Started → Step
-startedStep f s = startedBy f (s .answer) (s .counters)
-
--- the first record `m,n`: 19, then 5
-abbrev pub firstStep : Follower → First → Step
-firstStep f first.Broken = refusedStep f 19
-firstStep f (first.Numbers m n) = startedStep f (startOf m n)
+-- the first record `m,n` went through: the listener has started, and nothing is printed
+abbrev pub firstWent : Follower → List ℕ → Step
+firstWent f bytes = wentStep f (startCounters (firstMinislots bytes) (firstGroups bytes)) Nothing
 
 -- a row's line: slot number (row 1 is record 2), group of this slot, turn, then H, N and RQ of that group after step 5
 abbrev pub lineAfter : Follower → Turn → Counters → Line
@@ -76,35 +61,20 @@ lineAfter f t after =
     let group = f .counters .next in
     Row (f .place - 1) group (letterOf t) (after .urgent) (after .long) (getD (after .resolution) (group - 1) 0)
 
--- listening: its line, or its number
-abbrev pub listenedBy : Follower → ListenAnswer → Counters → Step
-listenedBy f (listen.Went t) after = wentStep f after (lineAfter f t after)
-listenedBy f (listen.Refused number) after = refusedStep f number
+-- the lengths after step 1 of a row's slot
+unfoldable pub rowPlaces : Follower → List ℕ → Places
+rowPlaces f bytes = stepOneOf (f .counters) (feedbacks (readings (rowWords bytes) (rowCounts bytes))) .after
 
-abbrev pub listenedStep : Follower → Listened → Step
-listenedStep f heard = listenedBy f (heard .answer) (heard .counters)
+-- a row went through: the listener's record is that after steps 1 to 5
+abbrev pub rowWent : Follower → List ℕ → Step
+rowWent f bytes =
+    let after = fallen (f .counters) (rowPlaces f bytes) in
+    wentStep f after (lineAfter f (turnOf (rowPlaces f bytes)) after)
 
--- a row's fields: 6 for a wrong field count, then 1 to 4 and 7 as in listening
-unfoldable pub fieldsStep : Follower → List ℕ → Step
-fieldsStep f fields =
-    cond (eqb (length fields) (f .counters .minislots * 2))
-    (listenedStep f (listeningOf (f .counters) (wordsOf fields) (countsOf fields)))
-    (refusedStep f 6)
-
--- a row: 19 comes before all others
-unfoldable pub rowStep : Follower → List ℕ → Step
-rowStep f bytes = cond (wellFormed bytes && withinRange (fieldsOf bytes)) (fieldsStep f (fieldsOf bytes)) (refusedStep f 19)
+-- the first record went through, or a row
+abbrev pub recordWent : Follower → List ℕ → Step
+recordWent f bytes = cond (ltb 1 (f .place)) (rowWent f bytes) (firstWent f bytes)
 
 -- FOLLOWING A RECORD: the first, and then rows
 unfoldable pub followRecord : Follower → List ℕ → Step
-followRecord f bytes = cond (ltb 1 (f .place)) (rowStep f bytes) (firstStep f (firstOf bytes))
-
--- whether a line ends the output
-abbrev pub endsOutput : Line → Bool
-endsOutput Nothing = false
-endsOutput (Row slot group letter urgent long resolution) = false
-endsOutput (Refusal number place) = true
-
--- the answer where a step's line is put into a buffer from place `at` on
-abbrev pub followed : Step → List ℕ → ℕ → Followed
-followed s buffer at = record { follower = s .follower; at = placeAfter buffer at (bytesOf (s .line)); ended = endsOutput (s .line) }
+followRecord f bytes = byNumber (recordNumberOf f bytes) (refusedStep f) (recordWent f bytes)

@@ -1,4 +1,5 @@
 // What `follow` does with one record of its input: the listener's record goes on and a line is written, or the output ends with a refusal.
+use counters::resolution_of;
 use lines::put_line;
 use lines::put_refusal;
 use listener::listen;
@@ -14,13 +15,13 @@ use rules::Listened;
 use rules::StartAnswer;
 use rules::Turn;
 ghost use mathlib.Core.Path.{_≡_};
-ghost use Prim.Native.Nat.{_-_, _<_};
-ghost use lib.ListN.{getD};
+ghost use Prim.Native.Nat.{_-_};
 ghost use Rattle.lines.specs.Lines.{putAt, placeAfter};
 ghost use Rattle.rules.specs.Starting.{startOf};
-ghost use Rattle.follower.specs.Following.{letterOf, placeFollowing, atBegin, bytesOf, refusedStep, startedStep};
-ghost use Rattle.follower.specs.Following.{listenedStep, rowStep, followRecord, endsOutput, followed};
-ghost use Rattle.follower.specs.Advancing.{progressOf, stepAdvance, doneAdvance, advanceOf, reached};
+ghost use Rattle.follower.specs.Following.{letterOf, placeFollowing, atBegin, bytesOf, refusedStep, followRecord};
+ghost use Rattle.follower.specs.Steps.{startedStep, listenedStep, rowStep};
+ghost use Rattle.follower.specs.Advancing.{progressOf, stepAdvance, doneAdvance, advanceOf, followed, reached};
+ghost use Rattle.follower.specs.Answered.{progressTold, recordToldOf, nextToldOf};
 
 // What is known between two records: the listener's record, and the number of the record to come (from 1; the first is `m,n`).
 pub struct Follower {
@@ -51,19 +52,19 @@ pub struct Step {
     pub line: Line,
 }
 
-// One record followed and its line written: what is known after it, the place after the line, and whether the output has ended.
-pub struct Followed {
-    pub follower: Follower,
-    pub at: usize,
-    pub ended: bool,
-}
-
-// What became of the record that begins at a place: it was followed; it is not whole yet; no record is left; it was refused.
+// What became of a record: it was followed; it is not whole yet; no record is left; it was refused with a number, which ends the output.
 pub enum Progress {
     Went,
     More,
     Done,
-    Refused,
+    Refused(u8),
+}
+
+// One record followed and its line written: what became of it, what is known after it, and the place after the line.
+pub struct Followed {
+    pub progress: Progress,
+    pub follower: Follower,
+    pub at: usize,
 }
 
 // The record that begins at a place: what became of it, what is known after it, where the next begins, and its line.
@@ -114,19 +115,14 @@ fn place_following(place: u64) -> u64
     place
 }
 
-// RQ of a group.
-fn resolution_of(c: Counters, group: u8) -> u16
-    ensures { λ r. ⌜ r ≡ getD (c .resolution) (group - 1) 0 ⌝ }
+// The slot of the record of this number: the first is no row.
+fn slot_of(place: u64) -> u64
+    ensures { λ r. ⌜ r ≡ place - 1 ⌝ }
 {
-    let resolution = c.resolution;
-    if group == 0 {
-        return resolution[0];
+    if place == 0 {
+        return 0;
     }
-    let i = (group - 1) as usize;
-    if i < 8 {
-        return resolution[i];
-    }
-    0
+    place - 1
 }
 
 // A refusal, which ends the output; what is known stays as it was.
@@ -171,7 +167,6 @@ fn start_with(f: Follower, m: u32, n: u32) -> Step
 
 // A row that was listened to: its refusal, or its line.
 fn listened(f: Follower, heard: Listened) -> Step
-    requires { ⌜ 1 < f .place ⌝ }
     ensures { λ r. ⌜ r ≡ listenedStep f heard ⌝ }
 {
     let answer = heard.answer;
@@ -187,7 +182,7 @@ fn listened(f: Follower, heard: Listened) -> Step
                     place: place_following(f.place),
                 },
                 line: Line::Row {
-                    slot: f.place - 1,
+                    slot: slot_of(f.place),
                     group,
                     letter: letter(turn),
                     urgent: after.urgent,
@@ -201,7 +196,6 @@ fn listened(f: Follower, heard: Listened) -> Step
 
 // A row. 19: it breaks the form. 6: it has not 2m fields. Then listening's numbers.
 fn row(f: Follower, bytes: &[u8]) -> Step
-    requires { ⌜ 1 < f .place ⌝ }
     ensures { λ r. ⌜ r ≡ rowStep f (now (bytes .entry)) ⌝ }
 {
     let fields = row_fields(bytes);
@@ -262,18 +256,7 @@ fn progress_of(line: Line) -> Progress
     match line {
         Line::Nothing => Progress::Went,
         Line::Row { .. } => Progress::Went,
-        Line::Refusal { .. } => Progress::Refused,
-    }
-}
-
-// Whether a line ends the output.
-fn ends_output(line: Line) -> bool
-    ensures { λ r. ⌜ r ≡ endsOutput line ⌝ }
-{
-    match line {
-        Line::Nothing => false,
-        Line::Row { .. } => false,
-        Line::Refusal { .. } => true,
+        Line::Refusal { number, .. } => Progress::Refused(number),
     }
 }
 
@@ -282,16 +265,17 @@ fn ends_output(line: Line) -> bool
 pub fn follow_record(f: Follower, bytes: &[u8], out: &mut [u8], at: usize) -> Followed
     ensures buffer { λ r. ⌜ now (out .exit) ≡ putAt (now (out .entry)) at (bytesOf (followRecord f (now (bytes .entry)) .line)) ⌝ }
     ensures answer { λ r. ⌜ r ≡ followed (followRecord f (now (bytes .entry))) (now (out .entry)) at ⌝ }
+    ensures told { λ r. ⌜ progressTold (r .progress) ≡ recordToldOf f (now (bytes .entry)) ⌝ }
 {
     let s = read_record(f, bytes);
     let line = s.line;
     let follower = s.follower;
-    let ended = ends_output(line);
+    let progress = progress_of(line);
     let after = put(line, out, at);
     Followed {
+        progress,
         follower,
         at: after,
-        ended,
     }
 }
 
@@ -354,6 +338,7 @@ pub fn follow_next(
 ) -> Next
     ensures buffer { λ r. ⌜ now (out .exit) ≡ putAt (now (out .entry)) at (bytesOf (advanceOf f (now (bytes .entry)) start ended .line)) ⌝ }
     ensures answer { λ r. ⌜ r ≡ reached (advanceOf f (now (bytes .entry)) start ended) (now (out .entry)) at ⌝ }
+    ensures told { λ r. ⌜ progressTold (r .progress) ≡ nextToldOf f (now (bytes .entry)) start ended ⌝ }
 {
     let a = advance_at(f, bytes, start, ended);
     let line = a.line;

@@ -2,12 +2,13 @@
 -- Assumes nothing.
 use mathlib.Core.Path.{_≡_}
 use mathlib.Core.List.{List, [], _∷_, _++_, append-assoc}
-use Prim.Native.Nat.{ℕ, _+_}
+use Prim.Native.Nat.{ℕ, _+_, _<_, _≤_}
 use native.Mathlib.Omega.{arith}
 use lib.ListN.{length, length-append}
 use Rattle.lines.specs.Decimal.{digitsOf}
 use Rattle.lines.specs.Lines.{recordOf, lineOf, refusalOf}
 use Rattle.lines.specs.Pieces.{fieldBytes, slotBytes, counterBytes}
+use Rattle.lines.proofs.Decimals.{digits-few}
 
 pub slot-length : (slot group turn : ℕ) → length (slotBytes slot group turn) ≡ length (digitsOf slot) + length (digitsOf group) + 4
 unfolding slotBytes
@@ -40,3 +41,23 @@ module _ (number place : ℕ) where
   pub refusal-length : length (refusalOf number place) ≡ length (digitsOf number) + length (digitsOf place) + 11
   unfolding refusalOf recordOf
   refusal-length = simp length-append (omega arith)
+
+-- ---- HOW LONG A LINE CAN BE
+
+-- a slot number of 64 bits, a group below 1,000 and counters below 100,000
+pub line-within : (slot group turn urgent long resolution : ℕ) → slot ≤ 18446744073709551615 → group < 1000 → urgent < 100000 → long < 100000
+    → resolution < 100000 → length (lineOf slot group turn urgent long resolution) ≤ 46
+line-within slot group turn urgent long resolution s g u l r =
+    omega (
+      arith,
+      line-length slot group turn urgent long resolution,
+      digits-few 19 slot (omega arith),
+      digits-few 2 group g,
+      digits-few 4 urgent u,
+      digits-few 4 long l,
+      digits-few 4 resolution r,
+    )
+
+-- a number below 1,000 and a record's number of 64 bits
+pub refusal-within : (number place : ℕ) → number < 1000 → place ≤ 18446744073709551615 → length (refusalOf number place) ≤ 34
+refusal-within number place n p = omega (arith, refusal-length number place, digits-few 2 number n, digits-few 19 place (omega arith))

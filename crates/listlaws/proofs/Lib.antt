@@ -6,3 +6,4 @@ pub mod Joining
 pub mod Totals
 pub mod Padding
 pub mod Tabulating
+pub mod Beyond

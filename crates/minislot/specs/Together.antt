@@ -4,6 +4,7 @@ use mathlib.Core.Path.{_≡_}
 use mathlib.Core.List.{List, [], _∷_}
 use Prim.Native.Nat.{ℕ, zero, suc, _≤_, _<_}
 use lib.Bits.{bitOr}
+use lib.Count.{ones}
 use lib.ListN.{getD, set}
 use Rattle.pattern.specs.Patterns.{wordOf}
 use Rattle.minislot.specs.declared.Minislot.{Minislot}
@@ -49,3 +50,8 @@ Apart i (r ∷ l) = (r .index ≡ i → ⊥) × Apart i l
 abbrev pub Proper : List Request → Type 0
 Proper [] = Unit {0}
 Proper (r ∷ l) = (r .index < 924) × (1 ≤ r .total) × Apart (r .index) l × Proper l
+
+-- minislots whose words are patterns, whoever sent them: each word has twelve digits, six of them ones
+abbrev pub SixOnes : List Minislot → Type 0
+SixOnes [] = Unit {0}
+SixOnes (a ∷ l) = (a .word < 4096) × (ones (a .word) ≡ 6) × SixOnes l

@@ -12,8 +12,9 @@ use station::with_condition;
 use table::Loaded;
 use table::blanks;
 use table::hold;
+use table::least;
 ghost use mathlib.Core.Path.{_≡_};
-ghost use Prim.Native.Nat.{_≤_, _<_};
+ghost use Prim.Native.Nat.{_<_};
 ghost use lib.ListN.{getD, take};
 ghost use Rattle.rules.specs.StationCalls.{takingNumberOf};
 ghost use Rattle.rules.specs.ChannelCalls.{positionOf, channelOfferNumberOf};
@@ -29,20 +30,20 @@ pub struct Offered {
 
 // ---- its number
 
-// How many of the first n stations stand before the first of an index; n if there is none.
+// How many of the first n stations stand before the first of an index; all of them if there is none.
 fn position_of(stations: [Station; 64], n: usize, index: u16) -> usize
-    requires { ⌜ n ≤ 64 ⌝ }
     ensures { λ r. ⌜ r ≡ positionOf index (take n stations) ⌝ }
 {
+    let end = least(n, 64);
     let mut i: usize = 0;
-    while i < n {
+    while i < end {
         let s = stations[i];
         if s.index == index {
             return i;
         }
         i += 1;
     }
-    n
+    end
 }
 
 // The number of an offer on the first n of the records, 0 where it goes through: 14, 18, 16, 9, 10.

@@ -1,6 +1,7 @@
 // The outcome of a slot: what all stations with the same counters have in common, worked out once from the counters and a row that was
 // read, for a station and for a channel alike.
 use counters::fall;
+use counters::held;
 use counters::queue;
 use counters::turn;
 use minislot::Feedback;
@@ -100,11 +101,10 @@ fn success_in(success: bool, f: Feedback) -> u8
 
 // The slots delivered by the row heard: its first m minislots.
 fn successes_in(success: bool, row: [MinislotFeedback; 8], m: u8) -> u8
-    requires { ⌜ m ≤ 8 ⌝ }
     ensures { λ r. ⌜ r ≡ successes success (take m (feedbackIn row)) ⌝ }
 {
     let mut total: u8 = 0;
-    let mut j = m as usize;
+    let mut j = held(m);
     while 0 < j {
         j -= 1;
         let slot = row[j];

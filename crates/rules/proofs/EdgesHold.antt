@@ -1,5 +1,5 @@
--- The edges that the paper marks P hold: by computation, but for the word above bit 11, which is refused whatever the count.
--- Assumes nothing.
+-- The edges that the paper marks P hold: by computation, but for the word above bit 11, which is refused whatever the count, and the
+-- general forms, which are proofs/EdgesAnyHold.antt's. Assumes nothing.
 use mathlib.Core.Path.{refl}
 use native.Mathlib.Omega.{arith}
 use lib.Count.{ones, onesIn}
@@ -14,6 +14,7 @@ use Rattle.rules.specs.Turns.{turnOf}
 use Rattle.rules.specs.Falling.{fallen}
 use Rattle.rules.specs.Listening.{listened, heardNumberOf, listenOf, listenNumberOf, listeningOf}
 use Rattle.rules.specs.Edges.{Edges}
+use Rattle.rules.proofs.EdgesAnyHold.{edges-any}
 
 pub edges : Edges
 unfolding ones onesIn those sixOnes patterns placeOf indexOf readingOf readings firstNumber feedbacks weight
@@ -37,4 +38,5 @@ edges =
       collide-and-single = refl;
       resolve-slot = refl;
       then-a-single = refl;
+      any = edges-any;
     }

@@ -9,7 +9,7 @@ use lib.ListN.{length, length-append}
 use Rattle.rules.proofs.QueueViews.{length-segments}
 use Rattle.rules.proofs.Newcomers.{ofBy-append}
 use Rattle.rules.proofs.CallStep.{length-rem}
-use Rattle.rules.proofs.Relation.{Fits, Same, Numbered, whole, remaining}
+use Rattle.rules.proofs.Relation.{Same, Numbered, whole, remaining}
 use Rattle.rules.proofs.Shared.{Table}
 use Rattle.rules.proofs.Views.{eqb-self}
 use Rattle.rules.specs.Calls.{Start}
@@ -18,7 +18,7 @@ use Rattle.rules.specs.Messages.{deliveredFor, Message, Segment, of, seg
 use Rattle.rules.specs.Plain.{Plain}
 use Rattle.rules.specs.Serving.{waiting}
 use Rattle.rules.specs.StationLimits.{Condition, Free, Fresh, Asked, Resolving, Urgent, Long}
-use borrow.Author.Tests.{ne-eqb, eqb-false}
+use borrow.Author.Tests.{eq-eqb, ne-eqb, eqb-false}
 use lib.Dec.{eqb}
 
 -- a first part of a run is a run
@@ -98,6 +98,22 @@ none-left : (a b : List Segment) → a ++ b ≡ [] → a ≡ []
 none-left [] b e = refl
 none-left (x ∷ a) b e = cc
 
+-- what remains of a message in its station is a run of its segments
+pub remaining-run : (n : Message) (c : Condition) → (l : ℕ) × (s : ℕ) × (remaining n c ≡ segmentsFrom n l s)
+remaining-run n Free = (0, 1, refl)
+remaining-run n (Fresh t) = (n .slots, 1, refl)
+remaining-run n (Asked g j t) = (n .slots, 1, refl)
+remaining-run n (Resolving g i t) = (n .slots, 1, refl)
+remaining-run n (Urgent i) = (n .slots, 1, refl)
+remaining-run n (Long f l t) = (l, suc (t - l), refl)
+
+-- so it is all of one message
+pub remaining-own : (n : Message) (x : ℕ) (c : Condition) → eqb (n .serial) x ≡ true → deliveredFor x (remaining n c) ≡ remaining n c
+remaining-own n x c e = let (l, s, q) = remaining-run n c in rw q (for-own n x e l s)
+
+remaining-other : (n : Message) (x : ℕ) (c : Condition) → eqb (n .serial) x ≡ false → deliveredFor x (remaining n c) ≡ []
+remaining-other n x c e = let (l, s, q) = remaining-run n c in rw q (for-other n x e l s)
+
 module _ (S : Start) (p : Plain) (t : Table) (R : Same S p t) (m : Message) (h : List·Memᴰ m (p .taken)) where
   part-of : (k : ℕ) → deliveredFor (m .serial) (deliveredOf k (p .history)) ++ deliveredFor (m .serial) (remaining (R .message k) (t .condition k)) ≡ onlyIf (eqb (m .station) k) (segmentsFrom m (m .slots) 1)
   part-of k =
@@ -105,34 +121,34 @@ module _ (S : Start) (p : Plain) (t : Table) (R : Same S p t) (m : Message) (h :
       ∙ ap (deliveredFor (m .serial)) (R .agrees k .owed)
       ∙ for-whole k m (p .taken) 0 (R .numbered) h
 
+  -- the message's deliveries, then what waits of it in its station, are its segments
+  pub own-part : (k : ℕ) → m .station ≡ k
+      → deliveredFor (m .serial) (p .history) ++ deliveredFor (m .serial) (remaining (R .message k) (t .condition k)) ≡ segmentsFrom m (m .slots) 1
+  own-part k e =
+      rw (one-station (m .serial) k (p .history) (λ i ne. none-left _ _ (part-of i ∙ rw (ne-eqb (m .station) i (λ w. ne (sym w ∙ e))))))
+      (part-of k ∙ rw (eq-eqb (m .station) k e))
+
+  pub own-slots : (k : ℕ) → m .station ≡ k
+      → length (deliveredFor (m .serial) (p .history)) + length (deliveredFor (m .serial) (remaining (R .message k) (t .condition k))) ≡ m .slots
+  own-slots k e =
+      sym (length-append (deliveredFor (m .serial) (p .history)) (deliveredFor (m .serial) (remaining (R .message k) (t .condition k))))
+      ∙ ap length (own-part k e) ∙ length-segments m (m .slots) 1
+
   -- what waits in the station is of one message
-  waiting-for : (x : ℕ) (n : Message) (c : Condition) → Fits S n c → (deliveredFor x (remaining n c) ≡ []) ⊎ (length (deliveredFor x (remaining n c)) ≡ waiting c)
-  waiting-for x n c f = go (eqb (n .serial) x) refl c f
+  waiting-for : (x k : ℕ) → (deliveredFor x (remaining (R .message k) (t .condition k)) ≡ []) ⊎ (length (deliveredFor x (remaining (R .message k) (t .condition k))) ≡ waiting (t .condition k))
+  waiting-for x k = go (eqb (R .message k .serial) x) refl
     where
-      go : (b : Bool) → eqb (n .serial) x ≡ b → (c : Condition) → Fits S n c → (deliveredFor x (remaining n c) ≡ []) ⊎ (length (deliveredFor x (remaining n c)) ≡ waiting c)
-      go true e Free f = inl refl
-      go true e (Fresh t) f = inr (ap length (for-own n x e (n .slots) 1) ∙ length-rem S n (Fresh t) f)
-      go true e (Asked g j t) f = inr (ap length (for-own n x e (n .slots) 1) ∙ length-rem S n (Asked g j t) f)
-      go true e (Resolving g i t) f = inr (ap length (for-own n x e (n .slots) 1) ∙ length-rem S n (Resolving g i t) f)
-      go true e (Urgent i) f = inr (ap length (for-own n x e (n .slots) 1) ∙ length-rem S n (Urgent i) f)
-      go true e (Long y l t) f = inr (ap length (for-own n x e l (suc (t - l))) ∙ length-rem S n (Long y l t) f)
-      go false e Free f = inl refl
-      go false e (Fresh t) f = inl (for-other n x e (n .slots) 1)
-      go false e (Asked g j t) f = inl (for-other n x e (n .slots) 1)
-      go false e (Resolving g i t) f = inl (for-other n x e (n .slots) 1)
-      go false e (Urgent i) f = inl (for-other n x e (n .slots) 1)
-      go false e (Long y l t) f = inl (for-other n x e l (suc (t - l)))
+      go : (b : Bool) → eqb (R .message k .serial) x ≡ b
+          → (deliveredFor x (remaining (R .message k) (t .condition k)) ≡ []) ⊎ (length (deliveredFor x (remaining (R .message k) (t .condition k))) ≡ waiting (t .condition k))
+      go true e = inr (ap length (remaining-own (R .message k) x (t .condition k) e) ∙ length-rem S (R .message k) (t .condition k) (R .agrees k .fits))
+      go false e = inl (remaining-other (R .message k) x (t .condition k) e)
 
   -- the message's deliveries are its first segments, in order, and the rest wait in its station
   pub history-of : (d : ℕ) × (d ≤ m .slots) × (deliveredFor (m .serial) (p .history) ≡ segmentsFrom m d 1) × (d < m .slots → waiting (t .condition (m .station)) ≡ m .slots - d)
   history-of =
-      let e = one-station (m .serial) (m .station) (p .history) (λ i ne. none-left _ _ (part-of i ∙ rw (ne-eqb (m .station) i (λ w. ne (sym w))))) in
-      let w = rw (eqb-self (m .station)) at (part-of (m .station)) in
-      let v = ap length w in (
-        length (deliveredFor (m .serial) (deliveredOf (m .station) (p .history))),
-        omega (arith, simp length-append at v, length-segments m (m .slots) 1),
-        e ∙ prefix m (m .slots) 1 (deliveredFor (m .serial) (deliveredOf (m .station) (p .history))) _ w,
-        λ l.
-            ⊎-elim (λ q. absurd (omega (arith, ap length q, simp length-append at v, length-segments m (m .slots) 1))) (λ q. omega (arith, simp length-append at v, length-segments m (m .slots) 1))
-            (waiting-for (m .serial) (R .message (m .station)) (t .condition (m .station)) (R .agrees (m .station) .fits)),
+      let v = own-slots (m .station) refl in (
+        length (deliveredFor (m .serial) (p .history)),
+        omega arith,
+        prefix m (m .slots) 1 (deliveredFor (m .serial) (p .history)) _ (own-part (m .station) refl),
+        λ l. ⊎-elim (λ q. absurd (omega (arith, ap length q))) (λ q. omega arith) (waiting-for (m .serial) (m .station)),
       )

@@ -39,6 +39,7 @@ pub mod SoundMeans
 pub mod SoundKept
 pub mod Starts
 pub mod Following
+pub mod Undelivered
 pub mod Theorem
 pub mod Worked
 pub mod Transmission
@@ -47,6 +48,7 @@ pub mod StationListens
 pub mod RowReads
 pub mod ListeningLaws
 pub mod ChangesHold
+pub mod EdgesAnyHold
 pub mod EdgesHold
 pub mod StationLaws
 pub mod ChannelLaws

@@ -64,9 +64,6 @@ module _ (m : ℕ) (words counts : List ℕ) (none : rowOf m words counts .numbe
         counted = λ k. rw feedback-is (counted-row words counts k);
       }
 
-  pub worded : length words ≡ m
-  worded = row-tests m words counts whole .2
-
 -- a row from the middle of a recording that is not short lies inside it
 pub row-inside : (m start : ℕ) (words counts : List ℕ)
     → (rowOf m (take m (drop start words)) (take m (drop start counts)) .number ≡ 6 → ⊥) → start + m ≤ length words

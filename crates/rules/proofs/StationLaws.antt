@@ -93,14 +93,14 @@ module _ (index own total : ℕ) where
       let x : hearsAt index own total (suc j + k) (getD words k 0) (getD row k Empty) ≡ false = rw (add-suc, ← suc-add j k) at e in
       rw (hears-fails (suc j) words row k (le-of-suc-le-suc h) (le-of-suc-le-suc q) x, and-false)
 
-  -- and a row passes where each of its minislots does
-  pub hears-holds : (j : ℕ) (words : List ℕ) (row : List Feedback) → length words ≡ length row
-      → ((k : ℕ) → k < length row → hearsAt index own total (j + k) (getD words k 0) (getD row k Empty) ≡ true) → hearsFrom index own total j words row ≡ true
-  hears-holds j words [] l h = refl
-  hears-holds j [] (f ∷ row) l h = refl
-  hears-holds j (w ∷ words) (f ∷ row) l h =
-      let x : hearsAt index own total j w f ≡ true = rw add-zero at (h zero (omega arith)) in
-      rw x (hears-holds (suc j) words row (omega arith) (λ k q. rw (suc-add, ← add-suc j k) (h (suc k) (omega arith))))
+  -- and a row passes where each of its minislots that has a word does
+  pub hears-holds : (j : ℕ) (words : List ℕ) (row : List Feedback)
+      → ((k : ℕ) → k < length words → k < length row → hearsAt index own total (j + k) (getD words k 0) (getD row k Empty) ≡ true) → hearsFrom index own total j words row ≡ true
+  hears-holds j words [] h = refl
+  hears-holds j [] (f ∷ row) h = refl
+  hears-holds j (w ∷ words) (f ∷ row) h =
+      let x : hearsAt index own total j w f ≡ true = rw add-zero at (h zero (omega arith) (omega arith)) in
+      rw x (hears-holds (suc j) words row (λ k l q. rw (suc-add, ← add-suc j k) (h (suc k) (omega arith) (omega arith))))
 
 -- ---- a slot, by the row's reading
 

@@ -31,6 +31,7 @@ use Rattle.rules.proofs.EmbodyCalls.{own-heard, counted, call-embodied}
 use Rattle.rules.proofs.SoundKept.{counters-same, is-at, meaning, stays-sound}
 use Rattle.rules.proofs.Starts.{started, new-embodies}
 use Rattle.rules.proofs.Following.{member, serial-at, station-of, waiting-sum, entry-at, wire-shows, sender-rule, never-comes, books-taken, books-delivered}
+use Rattle.rules.proofs.Undelivered.{nine-means}
 
 module _ (S : Start) (G : GoodStart S) where
   ml : 1 ≤ S .m
@@ -150,6 +151,7 @@ module _ (S : Start) (G : GoodStart S) where
           senders = run-senders calls (plainStart S) tableStart begun first (new-embodies S);
           apart = λ i h. serial-at (plain .taken) 0 (R .numbered) i h ∙ zero-add i;
           messages = message-shows;
+          nine = nine-means S plain table R;
           taken = rw told (sym (books-taken S calls (plainStart S) ∙ zero-add _));
           delivered = rw told (sym (books-delivered S calls (plainStart S) ∙ zero-add _));
           ledger =

@@ -26,7 +26,7 @@ use Rattle.rules.specs.ChannelCalls.{Channel, blankRow, channelStartOf, 
 use Rattle.rules.specs.ChannelCalls.{feedbackHeard, channelCall, channelAfter, channelAnswers}
 use Rattle.rules.specs.Calls.{Start, index, Call, Offer, Slot, Answer, Refused, Taken, Went}
 use Rattle.rules.specs.Messages.{Message, Segment, segmentsFrom, deliveredFor}
-use Rattle.rules.specs.Plain.{Plain, plainStart, plainAfter, plainAnswers, slotSum}
+use Rattle.rules.specs.Plain.{Plain, plainStart, plainAfter, plainAnswers, slotSum, waits}
 use Rattle.rules.specs.Positions.{conditionOf}
 
 -- ---- the words of the statement
@@ -102,6 +102,13 @@ pub record MessageShows (p : Plain) (ch : Channel) (m : Message) : Type 0 where
   pub order : deliveredFor (m .serial) (p .history) ≡ segmentsFrom m delivered 1
   pub rest : delivered < m .slots → waiting (stationAt (ch .stations) (m .station) .condition) ≡ m .slots - delivered
 
+-- a message of station k is not all delivered: one of those taken, from 0
+pub record NotAllDelivered (p : Plain) (k : ℕ) : Type 0 where
+  pub which : ℕ
+  pub taken : which < length (p .taken)
+  pub own : messageAt p which .station ≡ k
+  pub left : length (deliveredFor (messageAt p which .serial) (p .history)) < messageAt p which .slots
+
 -- ---- THE CLAIM
 
 pub record Demand3 (S : Start) (begun : Channel) (calls : List Call) (ch : Channel) (p : Plain) : Type 0 where
@@ -141,6 +148,8 @@ pub record Demand3 (S : Start) (begun : Channel) (calls : List Call) (ch : Chann
   -- of each message taken: its first slots delivered, each once and in order, the rest wait in its station
   pub messages : (i : ℕ) → i < length (p .taken)
       → MessageShows p ch (messageAt p i)
+  -- the plain channel's test for 9, which goes by totals, says what the paper says: a message of that station is not all delivered
+  pub nine : (k : ℕ) → (waits p k ≡ true → NotAllDelivered p k) × (NotAllDelivered p k → waits p k ≡ true)
   -- in total taken = delivered + waiting: delivered counted from the history, waiting from the stations' conditions
   pub ledger : slotSum (p .taken)
       ≡ length (p .history) + sumOf (λ (s : Station). waiting (s .condition)) (ch .stations)

@@ -1,5 +1,5 @@
--- The edges that the paper marks P, as one list: a line of the paper to a field. `edges` of proofs/EdgesHold.antt proves them. Assumes
--- nothing.
+-- The edges that the paper marks P, as one list: a line of the paper to a field, and each line that is general in its general form too.
+-- `edges` of proofs/EdgesHold.antt proves them. Assumes nothing.
 use mathlib.Core.Path.{_≡_}
 use mathlib.Core.List.{List, [], _∷_}
 use Prim.Native.Nat.{ℕ, _-_}
@@ -10,7 +10,6 @@ use Rattle.minislot.specs.Reading.{readingOf}
 use Rattle.message.specs.declared.SlotTotal.the-variants.{Slots, Refused as RefusedMessage}
 use Rattle.message.specs.Message.{slotTotalOf}
 use Rattle.rules.specs.declared.Counters.{Counters}
-use Rattle.rules.specs.declared.Places.{Places}
 use Rattle.rules.specs.declared.Listened.{Listened}
 use Rattle.rules.specs.declared.ListenAnswer.{ListenAnswer}
 use Rattle.rules.specs.declared.ListenAnswer.the-variants.{Went}
@@ -18,6 +17,7 @@ use Rattle.rules.specs.Starting.{startCounters}
 use Rattle.rules.specs.Queueing.{placesAfter}
 use Rattle.rules.specs.Turns.{UrgentTurn, LongTurn, ResolveTurn, OpenTurn}
 use Rattle.rules.specs.Listening.{listeningOf, listenOf}
+use Rattle.rules.specs.EdgesAny.{places, EdgesAny}
 
 -- a row as it is heard, and what `follow` prints of a slot: the answer, then H, N and RQ of that group after step 5
 pub record Words : Type 0 where
@@ -50,10 +50,6 @@ two w c v d = record { words = w ∷ v ∷ []; counts = c ∷ d ∷ [] }
 abbrev pub line : ListenAnswer → ℕ → ℕ → ℕ → Line
 line a h n r = record { answer = a; urgent = h; long = n; resolution = r }
 
--- lengths after step 1
-abbrev pub places : ℕ → ℕ → ℕ → Places
-places h n r = record { urgent = h; long = n; resolution = r }
-
 pub record Edges : Type 0 where
   -- word 62 count 1: 2. 63, 1: Single, index 0. 127, 9: Collide. 4032, 255: Single, index 923. 4096: 1. 63, 0: 3. 0, 1: 4.
   pub word-62-1 : readingOf 62 1 ≡ Refused 2
@@ -80,3 +76,5 @@ pub record Edges : Type 0 where
   pub resolve-slot : listenOf (startCounters 2 1) (Collide ∷ Empty ∷ []) .answer ≡ Went ResolveTurn
   pub then-a-single :
       placesAfter (listenOf (startCounters 2 1) (Collide ∷ Empty ∷ []) .counters) (Single 0 1 ∷ Empty ∷ []) ≡ places 1 0 0
+  -- the same for any word, count, length, group, index and minislot
+  pub any : EdgesAny

@@ -30,5 +30,6 @@ pub mod RowAccount
 pub mod Recorded
 pub mod Answered
 pub mod Changes
+pub mod EdgesAny
 pub mod Edges
 pub mod Room

@@ -213,11 +213,12 @@ abbrev pub stationFrom : ℕ → List ℕ → ℕ → Option ℕ
 stationFrom k [] x = none
 stationFrom k (i ∷ l) x = cond (eqb i x) (some k) (stationFrom (suc k) l x)
 
--- all slots of some messages; 9: a message of station k is not all delivered
+-- all slots of some messages
 abbrev pub slotSum : List Message → ℕ
 slotSum [] = 0
 slotSum (m ∷ l) = m .slots + slotSum l
 
+-- 9: a message of station k is not all delivered, told by the totals (`nine` of Demand3: they tell the same)
 abbrev pub waits : Plain → ℕ → Bool
 waits p k = not (eqb (slotSum (of k (p .taken))) (length (deliveredOf k (p .history))))
 

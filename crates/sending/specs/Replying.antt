@@ -16,7 +16,6 @@ replyOf j wire sent =
     byNumber (j .number) (refusedReply wire)
     (record { answer = slotAnswer (j .outcome) sent; wire = wireAfter wire (j .outcome) sent })
 
--- what is asked for where the slot goes through, so that the row has a place and the slots delivered are counted
+-- what is asked for where the slot goes through: the slots delivered can be counted
 pub record Answerable (j : Judged) (sent : Sent) : Type 0 where
-  pub group : j .number ≡ 0 → (1 ≤ j .outcome .group) × (j .outcome .group ≤ 8)
   pub delivered : j .number ≡ 0 → j .outcome .delivered + sent .senders ≤ 255

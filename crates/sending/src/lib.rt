@@ -3,6 +3,7 @@
 use calls::CallReply;
 use calls::Judged;
 use calls::refuse;
+use counters::place_of;
 use minislot::Minislot;
 use minislot::sending::carry;
 use minislot::sending::place;
@@ -124,13 +125,15 @@ fn delivered_now(t: Turn, senders: u8) -> u8
     }
 }
 
-// The wire with a group's new row.
+// The wire with a group's new row, and as it was for a group beyond the eight.
 fn put_row(wire: [WireRow; 8], group: u8, minislots: [Minislot; 8]) -> [WireRow; 8]
-    requires { ⌜ (1 ≤ group) × (group ≤ 8) ⌝ }
     ensures { λ r. ⌜ r ≡ set wire (group - 1) (record { minislots = minislots }) ⌝ }
 {
+    let g = place_of(group);
+    if 8 <= g {
+        return wire;
+    }
     let mut after = wire;
-    let g = (group - 1) as usize;
     after[g] = WireRow { minislots };
     after
 }

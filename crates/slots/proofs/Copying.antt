@@ -2,12 +2,13 @@
 use mathlib.Core.Path.{_≡_, refl, sym, ap, _∙_}
 use mathlib.Core.List.{List, [], _∷_, map}
 use mathlib.Core.Logic.{inl}
-use Prim.Native.Nat.{ℕ, zero, suc, _+_, _<_}
+use Prim.Native.Nat.{ℕ, zero, suc, _+_, _<_, min}
 use native.Mathlib.Numerals.{add-one}
 use native.Mathlib.Omega.{arith}
 use lib.ListN.{length, getD, set, take, replicate, length-map, List·getD-map}
 use lib.Seq.{take-all}
 use Rattle.listlaws.specs.Steps.{firstSteps, latter}
+use Rattle.listlaws.proofs.Beyond.{take-most}
 use Rattle.listlaws.proofs.Steps.{set-firstSteps, firstSteps-take, allSteps-whole}
 use Rattle.minislot.specs.declared.Minislot.{Minislot}
 use Rattle.minislot.specs.Together.{silent}
@@ -30,7 +31,9 @@ module _ (f : Minislot → ℕ) (blank : f silent ≡ 0) (ms : List Minislot) (e
       ∙ set-firstSteps latter j zeros (map f ms) 0 0 h (rw same h)
       ∙ ap (λ (k : ℕ). firstSteps latter k zeros (map f ms)) (sym (add-one j))
 
-  pub copied-all : (m : ℕ) → take m (firstSteps latter 8 zeros (map f ms)) ≡ map f (take m ms)
+  -- the first m of them, of which there are no more than 8
+  pub copied-all : (m : ℕ) → take (min m 8) (firstSteps latter 8 zeros (map f ms)) ≡ map f (take m ms)
   copied-all m =
-      ap (take m) (firstSteps-take latter 8 8 zeros (map f ms) (omega arith) (inl (omega arith)) ∙ rw (take-all 8 (map f ms) (omega (arith, same))) (allSteps-whole zeros (map f ms) (sym same)))
-      ∙ map-take f m ms
+      ap (take (min m 8)) (firstSteps-take latter 8 8 zeros (map f ms) (omega arith) (inl (omega arith)) ∙ rw (take-all 8 (map f ms) (omega (arith, same))) (allSteps-whole zeros (map f ms) (sym same)))
+      ∙ map-take f (min m 8) ms
+      ∙ ap (map f) (take-most m 8 ms eight)

@@ -138,7 +138,3 @@ module _ (ys : List Station) (wire : List WireRow) (picks : List ℕ) (passed : 
   pub delivered-most : outcomeHeard ch .delivered ≤ 8
   unfolding outcomeBy
   delivered-most = omega (arith, successes-few (stepOneOf (tableCounters ys) (feedbackHeard ch) .success) (feedbackHeard ch), row-most)
-
-  pub group-in : (1 ≤ outcomeHeard ch .group) × (outcomeHeard ch .group ≤ 8)
-  unfolding outcomeBy
-  group-in = (limits ys wire some (passed .sound) .next .0, omega (arith, limits ys wire some (passed .sound) .next .1, limits ys wire some (passed .sound) .groups .1))

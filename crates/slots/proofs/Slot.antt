@@ -28,7 +28,7 @@ use Rattle.slots.specs.Judging.{noOutcome, judgedRefused, judgedOf}
 use Rattle.sending.specs.Replying.{replyOf, Answerable}
 use Rattle.slots.specs.Stepped.{stationAfter, steppedOf, gatheredOf, slotLeft}
 use Rattle.slots.proofs.Numbers.{Passed, slot-passed, slot-14}
-use Rattle.slots.proofs.Goes.{stations-are, sent-is, senders-most, delivered-most, group-in}
+use Rattle.slots.proofs.Goes.{stations-are, sent-is, senders-most, delivered-most}
 
 module _ (ys : List Station) (wire : List WireRow) (picks : List ℕ) where
   abbrev through : Judged
@@ -85,13 +85,10 @@ module _ (ys : List Station) (wire : List WireRow) (picks : List ℕ) where
           (gatheredOf (cond b through (judgedRefused number) .outcome) (cond b through (judgedRefused number) .steps) ys picks)
       go true e =
           let p = slot-passed (channelOf ys wire) picks (eqb-true number 0 e) in
-          record {
-            group = λ _. group-in ys wire picks p;
-            delivered = λ _. omega (arith, ap (λ (s : Sent). s .senders) (gathered-through p), senders-most ys wire picks p, delivered-most ys wire picks p);
-          }
+          record { delivered = λ _. omega (arith, ap (λ (s : Sent). s .senders) (gathered-through p), senders-most ys wire picks p, delivered-most ys wire picks p) }
       go false e =
           let nonzero : number ≡ 0 → ⊥ = λ z. false≢true (sym e ∙ ap (λ (k : ℕ). eqb k 0) z) in
-          record { group = λ z. absurd (nonzero z); delivered = λ z. absurd (nonzero z) }
+          record { delivered = λ z. absurd (nonzero z) }
 
   -- ---- a table that was loaded
 

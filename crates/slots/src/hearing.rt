@@ -1,14 +1,17 @@
 // What a slot reads of the wire and of its picks.
+use counters::held;
+use counters::place_of;
 use minislot::Minislot;
 use minislot::RowReading;
 use minislot::read_row;
 use rules::Counters;
 use rules::WireRow;
 ghost use mathlib.Core.Path.{_≡_};
-ghost use mathlib.Core.Bool.{true};
-ghost use Prim.Native.Nat.{ℕ, _≤_};
+ghost use Prim.Native.Nat.{ℕ, _-_};
+ghost use lib.ListN.{getD};
 ghost use Rattle.listlaws.specs.Lists.{each};
-ghost use Rattle.rules.specs.Limits.{between, withinLimits};
+ghost use Rattle.rules.specs.ChannelCalls.{blankRow};
+ghost use Rattle.rules.specs.Limits.{between};
 ghost use Rattle.slots.specs.Heard.{firstRead, groupRead};
 
 // Whether every pick is one of m minislots.
@@ -31,10 +34,9 @@ pub fn picks_within(picks: &[u8], m: u8) -> bool
 
 // The first m minislots of a row, read.
 fn read_wire_row(minislots: [Minislot; 8], m: u8) -> RowReading
-    requires { ⌜ m ≤ 8 ⌝ }
     ensures { λ r. ⌜ r ≡ firstRead m minislots ⌝ }
 {
-    let end = m as usize;
+    let end = held(m);
     let mut words = [0u16; 8];
     let mut counts = [0u8; 8];
     let mut j: usize = 0;
@@ -47,13 +49,24 @@ fn read_wire_row(minislots: [Minislot; 8], m: u8) -> RowReading
     read_row(&words[0..end], &counts[0..end], m)
 }
 
+// A group's row of the wire, a blank one beyond its eight.
+fn row_at(wire: [WireRow; 8], group: u8) -> WireRow
+    ensures { λ r. ⌜ r ≡ getD wire (group - 1) blankRow ⌝ }
+{
+    let g = place_of(group);
+    if g < 8 {
+        return wire[g];
+    }
+    WireRow {
+        minislots: [Minislot { word: 0, count: 0 }; 8],
+    }
+}
+
 // The next group's row of the wire, read.
 pub fn read_group(c: Counters, wire: [WireRow; 8]) -> RowReading
-    requires { ⌜ withinLimits c ≡ true ⌝ }
     ensures { λ r. ⌜ r ≡ groupRead c wire ⌝ }
 {
-    let g = (c.next - 1) as usize;
-    let row = wire[g];
+    let row = row_at(wire, c.next);
     let minislots = row.minislots;
     read_wire_row(minislots, c.minislots)
 }

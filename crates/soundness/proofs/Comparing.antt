@@ -1,12 +1,12 @@
 -- Two records' counters compared number by number, and the counters of a table: those of its first record. Assumes nothing.
-use mathlib.Core.Path.{_≡_, refl, ap, _∙_}
+use mathlib.Core.Path.{_≡_, sym, ap, _∙_}
 use mathlib.Core.Bool.{Bool, true, false, Bool·beq}
 use mathlib.Core.List.{List, [], _∷_}
-use Prim.Native.Nat.{ℕ, zero, suc, _≤_, _<_}
-use native.Mathlib.Omega.{arith}
+use Prim.Native.Nat.{ℕ, _≤_}
 use lib.Dec.{eqb}
 use lib.ListN.{length, getD, take}
 use lib.Seq.{getD-take}
+use Rattle.listlaws.proofs.Beyond.{getD-any}
 use Rattle.rules.specs.declared.Station.{Station}
 use Rattle.rules.specs.declared.Condition.the-variants.{Free}
 use Rattle.rules.specs.StationCalls.{noStation}
@@ -35,10 +35,5 @@ blank =
       condition = Free;
     }
 
-getD-any : {A : Type 0} (l : List A) (i : ℕ) (d e : A) → i < length l → getD l i d ≡ getD l i e
-getD-any [] i d e h = absurd (omega arith)
-getD-any (x ∷ l) zero d e h = refl
-getD-any (x ∷ l) (suc i) d e h = getD-any l i d e (omega arith)
-
-pub first-counters : (l : List Station) (n : ℕ) (d : Station) → 1 ≤ n → n ≤ length l → tableCounters (take n l) ≡ getD l 0 d .counters
-first-counters l n d a b = ap (λ (s : Station). s .counters) (getD-take n l 0 noStation a ∙ getD-any l 0 noStation d (omega arith))
+pub first-counters : (l : List Station) (n : ℕ) → 1 ≤ n → 1 ≤ length l → getD l 0 blank .counters ≡ tableCounters (take n l)
+first-counters l n a b = ap (λ (s : Station). s .counters) (getD-any l 0 blank noStation b ∙ sym (getD-take n l 0 noStation a))

@@ -20,10 +20,11 @@ use rules::Station;
 use rules::TableMessage;
 use rules::WireRow;
 use shared::counters_shared;
+use shared::table_counters;
 use urgent::urgent_sound;
 use wire::wire_sound;
 ghost use mathlib.Core.Path.{_≡_};
-ghost use Prim.Native.Nat.{_≤_};
+ghost use Prim.Native.Nat.{_≤_, min};
 ghost use lib.ListN.{take};
 ghost use Rattle.rules.specs.Soundness.{soundTable};
 ghost use Rattle.soundness.specs.Clauses.{stationsSound, messagesSound};
@@ -35,7 +36,7 @@ const MOST_MINISLOTS: usize = 8;
 
 // The clauses on stations, the cheap ones first.
 fn stations_sound(stations: [Station; 64], count: usize) -> bool
-    requires { ⌜ (1 ≤ count) × (count ≤ 64) ⌝ }
+    requires { ⌜ count ≤ 64 ⌝ }
     ensures { λ r. ⌜ r ≡ stationsSound (take count stations) ⌝ }
 {
     if !records_within(stations, count) {
@@ -70,16 +71,21 @@ fn messages_sound(
     wire_sound(messages, count, wire)
 }
 
-// Whether a table of `count` stations and a wire are sound.
+// How many of the 64 records a table of `count` has.
+fn used(count: usize) -> usize
+    ensures { λ r. ⌜ r ≡ min count 64 ⌝ }
+{
+    if count < 64 { count } else { 64 }
+}
+
+// Whether a table of the first `count` records, or of all 64 where there are no more, and a wire are sound.
 pub fn sound(stations: [Station; 64], count: usize, wire: [WireRow; 8]) -> bool
-    requires { ⌜ (1 ≤ count) × (count ≤ 64) ⌝ }
     ensures { λ r. ⌜ r ≡ soundTable (take count stations) wire ⌝ }
 {
-    if !stations_sound(stations, count) {
+    let n = used(count);
+    if !stations_sound(stations, n) {
         return false;
     }
-    let first = stations[0];
-    let shared = first.counters;
-    let list = messages(stations, count);
-    messages_sound(list, count, shared, wire)
+    let list = messages(stations, n);
+    messages_sound(list, n, table_counters(stations, n), wire)
 }

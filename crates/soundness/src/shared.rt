@@ -1,12 +1,13 @@
 // All stations share m, n, next group, counters and Open marks.
 use crate::MOST_GROUPS;
+use conditions::limits::no_station;
 use rules::Counters;
 use rules::Station;
 ghost use mathlib.Core.Path.{_≡_};
 ghost use mathlib.Core.Bool.{Bool·beq};
 ghost use Prim.Native.Nat.{_≤_};
 ghost use lib.ListN.{take};
-ghost use Rattle.rules.specs.Soundness.{sameNumbers, sameMarks, sameCounters, countersShared};
+ghost use Rattle.rules.specs.Soundness.{sameNumbers, sameMarks, sameCounters, tableCounters, countersShared};
 
 fn same_numbers(a: [u16; 8], b: [u16; 8]) -> bool
     ensures { λ r. ⌜ r ≡ sameNumbers a b ⌝ }
@@ -70,12 +71,23 @@ fn same_counters(a: Counters, b: Counters) -> bool
     same_marks(u, v)
 }
 
+// The counters of a table: those of its first record, and those that stand for none where it has no record.
+pub(crate) fn table_counters(stations: [Station; 64], count: usize) -> Counters
+    ensures { λ r. ⌜ r ≡ tableCounters (take count stations) ⌝ }
+{
+    if count == 0 {
+        let none = no_station();
+        return none.counters;
+    }
+    let first = stations[0];
+    first.counters
+}
+
 pub(crate) fn counters_shared(stations: [Station; 64], count: usize) -> bool
-    requires { ⌜ (1 ≤ count) × (count ≤ 64) ⌝ }
+    requires { ⌜ count ≤ 64 ⌝ }
     ensures { λ r. ⌜ r ≡ countersShared (take count stations) ⌝ }
 {
-    let first = stations[0];
-    let shared = first.counters;
+    let shared = table_counters(stations, count);
     let mut i: usize = 0;
     while i < count {
         let s = stations[i];

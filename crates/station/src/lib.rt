@@ -147,20 +147,22 @@ pub fn step(s: Station, o: Outcome, pick: u8) -> StationSlot
 // A row that was heard, a pick in range. 7: a counter would pass its limit in step 1. 12: what the station must hear of itself is missing
 // or foreign.
 fn hear_row(s: Station, words: &[u16], row: RowReading, pick: u8) -> StationSlot
-    requires { ⌜ WholeRow s (now words) row ⌝ }
+    requires { ⌜ WholeRow s row ⌝ }
     ensures { λ r. ⌜ r ≡ heardSlotOf s (now (words .entry)) (feedbackOf (s .counters .minislots) row) pick ⌝ }
 {
     let c = s.counters;
     let minislots = row.minislots;
     let one = step_one(c, row);
-    if one.fits {
-        if hears_itself(s, words, minislots) {
-            let o = outcome(c, row, one);
-            return step(s, o, pick);
-        }
+    let fits = one.fits;
+    if !fits {
+        return refused_slot(s, 7);
+    }
+    let own = hears_itself(s, words, minislots);
+    if !own {
         return refused_slot(s, 12);
     }
-    refused_slot(s, 7)
+    let o = outcome(c, row, one);
+    step(s, o, pick)
 }
 
 // A station within its limits. 6: the row has not m minislots. 11: the pick is outside 1 to m. Then 1 to 4 for the first bad minislot, 7

@@ -1,5 +1,6 @@
 pub mod Steps
 pub mod Moves
+pub mod Puts
 pub mod Whole
 pub mod Pieces
 pub mod Shifts

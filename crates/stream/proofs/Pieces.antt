@@ -1,9 +1,10 @@
 -- What does not depend on how the input is divided into reads, and that a whole recording is followed to its end:
 -- `settled-advance`: a record that is whole, or broken, is followed as it is whatever bytes come after it;
 -- `further`: a record that went through lies inside the input, and the next begins after its start;
--- `whole-input`: where no byte comes after, no record asks for more.
+-- `asks-more`: where a record asks for more bytes some may come, few are there, and nothing was done;
+-- `whole-input`: so where no byte comes after, no record asks for more.
 -- Assumes nothing.
-use mathlib.Core.Bool.{Bool, true, false, cond}
+use mathlib.Core.Bool.{Bool, true, false, cond, true≢false}
 use mathlib.Core.Path.{_≡_, refl, ap, sym, _∙_}
 use mathlib.Core.List.{List, [], _∷_, _++_}
 use Prim.Native.Nat.{ℕ, zero, suc, _+_, _-_, _<_, _≤_}
@@ -16,14 +17,14 @@ use Rattle.recording.specs.Cutting.{cutOf, begins, goesOn, afterReturn}
 use Rattle.recording.specs.declared.records.Cut.{Cut}
 use Rattle.recording.specs.declared.records.Cut.the-variants as cut
 use Rattle.recording.proofs.Cuts.{begins-none}
-use Rattle.recording.proofs.Streams.{settled, extent}
+use Rattle.recording.proofs.Streams.{settled, extent, enough-bytes}
 use Rattle.follower.specs.declared.Follower.{Follower}
 use Rattle.follower.specs.declared.Line.{Line}
 use Rattle.follower.specs.declared.Line.the-variants.{Nothing, Row, Refusal}
 use Rattle.follower.specs.declared.Progress.the-variants.{More, Done}
 use Rattle.follower.specs.Following.{followRecord, refusedStep}
 use Rattle.follower.specs.Advancing as advancing
-use Rattle.follower.specs.Advancing.{stepAdvance, doneAdvance, advanceBy, advanceOf}
+use Rattle.follower.specs.Advancing.{progressOf, stepAdvance, stayAdvance, doneAdvance, advanceBy, advanceOf}
 use Rattle.follower.proofs.CutReads.{inside}
 
 -- no cut but More is More
@@ -74,7 +75,7 @@ module _ (f : Follower) (bytes : List ℕ) (start : ℕ) (ended : Bool) where
   unfolding advanceOf
   further g = go (cutOf bytes start ended) refl g
     where
-      stays : (t : Bool) → advancing.goesOn (cond t (advancing.stayAdvance Done f start) (stepAdvance (refusedStep f 19) start) .progress) ≡ true → ⊥
+      stays : (t : Bool) → advancing.goesOn (cond t (stayAdvance Done f start) (stepAdvance (refusedStep f 19) start) .progress) ≡ true → ⊥
       stays true e = let z : _≡_ {A = ℕ} 0 1 = cc in omega arith
       stays false e = let z : _≡_ {A = ℕ} 0 1 = cc in omega arith
 
@@ -126,21 +127,38 @@ unfolding asksMore begins
 begins-whole at [] = refl
 begins-whole at (b ∷ l) = goes-whole at 128 (b ∷ l)
 
-pub whole-input : (f : Follower) (bytes : List ℕ) (start : ℕ) → advanceOf f bytes start true .progress ≡ More → ⊥
-unfolding asksMore advanceOf cutOf
-whole-input f bytes start e = go (begins true start (drop start bytes)) (begins-whole start (drop start bytes)) e
+-- a record asks for more bytes only where some may come, and of few bytes
+more-only : (bytes : List ℕ) (start : ℕ) (ended : Bool) → cutOf bytes start ended ≡ cut.More → (ended ≡ false) × (length bytes - start ≤ 129)
+unfolding asksMore cutOf
+more-only bytes start true e = let z : true ≡ false = sym (ap asksMore e) ∙ begins-whole start (drop start bytes) in absurd (true≢false z)
+more-only bytes start false e = (refl, enough-bytes bytes start e)
+
+-- and then nothing was done
+pub record Asks (f : Follower) (bytes : List ℕ) (start : ℕ) (ended : Bool) : Type 0 where
+  pub stays : advanceOf f bytes start ended ≡ stayAdvance More f start
+  pub unended : ended ≡ false
+  pub few : length bytes - start ≤ 129
+
+pub asks-more : (f : Follower) (bytes : List ℕ) (start : ℕ) (ended : Bool) → advanceOf f bytes start ended .progress ≡ More → Asks f bytes start ended
+unfolding advanceOf
+asks-more f bytes start ended e = go (cutOf bytes start ended) refl e
   where
-    went : (l : Line) → advancing.progressOf l ≡ More → ⊥
+    went : (l : Line) → progressOf l ≡ More → ⊥
     went Nothing e = let z : _≡_ {A = ℕ} 0 1 = cc in omega arith
     went (Row a b c d g h) e = let z : _≡_ {A = ℕ} 0 1 = cc in omega arith
     went (Refusal a b) e = let z : _≡_ {A = ℕ} 0 1 = cc in omega arith
 
-    over : (t : Bool) → cond t (advancing.stayAdvance Done f start) (stepAdvance (refusedStep f 19) start) .progress ≡ More → ⊥
+    over : (t : Bool) → cond t (stayAdvance Done f start) (stepAdvance (refusedStep f 19) start) .progress ≡ More → ⊥
     over true e = let z : _≡_ {A = ℕ} 0 1 = cc in omega arith
     over false e = let z : _≡_ {A = ℕ} 0 1 = cc in omega arith
 
-    go : (c : Cut) → asksMore c ≡ false → advanceBy f bytes start c .progress ≡ More → ⊥
-    go (cut.Record end next) a e = went (followRecord f (take (end - start) (drop start bytes)) .line) e
-    go cut.More a e = let z : _≡_ {A = ℕ} 0 1 = cc in omega arith
-    go cut.Done a e = over (ltb 1 (f .place)) e
-    go cut.Broken a e = let z : _≡_ {A = ℕ} 0 1 = cc in omega arith
+    go : (c : Cut) → cutOf bytes start ended ≡ c → advanceBy f bytes start c .progress ≡ More → Asks f bytes start ended
+    go (cut.Record end next) k e = absurd (went (followRecord f (take (end - start) (drop start bytes)) .line) e)
+    go cut.More k e =
+        let m = more-only bytes start ended k in
+        record { stays = ap (λ (c : Cut). advanceBy f bytes start c) k; unended = m .0; few = m .1 }
+    go cut.Done k e = absurd (over (ltb 1 (f .place)) e)
+    go cut.Broken k e = let z : _≡_ {A = ℕ} 0 1 = cc in absurd (omega arith)
+
+pub whole-input : (f : Follower) (bytes : List ℕ) (start : ℕ) → advanceOf f bytes start true .progress ≡ More → ⊥
+whole-input f bytes start e = true≢false (asks-more f bytes start true e .unended)

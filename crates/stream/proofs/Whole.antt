@@ -7,9 +7,9 @@ use Prim.Native.Nat.{ℕ, zero, suc, _+_, _<_, _≤_}
 use native.Mathlib.Omega.{arith}
 use borrow.Author.Tests.{le-leb}
 use lib.ListN.{length, length-append}
-use lib.Seq.{sets, length-sets}
+use lib.Seq.{sets}
 use Rattle.lines.specs.Lines.{headerOf, putAt, placeAfter}
-use Rattle.lines.proofs.Stores.{put-fits, sets-append}
+use Rattle.lines.proofs.Stores.{sets-append}
 use Rattle.follower.specs.declared.Advance.{Advance}
 use Rattle.follower.specs.declared.Next.{Next}
 use Rattle.follower.specs.declared.Progress.{Progress}
@@ -20,17 +20,7 @@ use Rattle.follower.proofs.Unwritten.{put-nothing}
 use Rattle.stream.specs.Buffering.{Buffered, roomFor, bufferedStep, bufferedFrom, bufferedOf}
 use Rattle.stream.specs.Recordings.{finished, WholeRecording}
 use Rattle.stream.proofs.Pieces.{further, whole-input}
-
--- bytes that fit are stored, and the place after them is reached
-module _ (buffer : List ℕ) (at : ℕ) (bytes : List ℕ) (fits : at + length bytes ≤ length buffer) where
-  put-stores : sets buffer at bytes ≡ putAt buffer at bytes
-  put-stores = put-fits buffer at bytes (le-leb _ _ fits) .0
-
-  put-reaches : placeAfter buffer at bytes ≡ at + length bytes
-  put-reaches = sym (put-fits buffer at bytes (le-leb _ _ fits) .1)
-
-  put-length : length (putAt buffer at bytes) ≡ length buffer
-  put-length = ap length (sym put-stores) ∙ length-sets buffer at bytes
+use Rattle.stream.proofs.Puts.{put-stores, put-reaches, put-length}
 
 -- one piece and then another is both
 put-both : (buffer : List ℕ) (at : ℕ) (xs ys : List ℕ) → at + length (xs ++ ys) ≤ length buffer
@@ -46,25 +36,25 @@ put-both buffer at xs ys h =
 
 -- the lines of k records at most, put into the buffer one after another
 record Lines (k : ℕ) (input buffer : List ℕ) (n : Next) : Type 0 where
-  written : bufferedFrom k input true buffer n .buffer ≡ putAt buffer (n .at) (linesFrom k (n .follower) input (n .next))
-  reached-place : bufferedFrom k input true buffer n .answer .at ≡ n .at + length (linesFrom k (n .follower) input (n .next))
+  written : bufferedFrom k input true buffer n .buffer ≡ putAt buffer (n .at) (linesFrom true k (n .follower) input (n .next))
+  reached-place : bufferedFrom k input true buffer n .answer .at ≡ n .at + length (linesFrom true k (n .follower) input (n .next))
 
 -- the record at the answer's place
 abbrev ahead : List ℕ → Next → Advance
 ahead input n = advanceOf (n .follower) input (n .next) true
 
-module _ (input buffer : List ℕ) (k : ℕ) (n : Next) (room : n .at + length (linesFrom (suc k) (n .follower) input (n .next)) + 128 ≤ length buffer) where
+module _ (input buffer : List ℕ) (k : ℕ) (n : Next) (room : n .at + length (linesFrom true (suc k) (n .follower) input (n .next)) + 128 ≤ length buffer) where
   has-room : roomFor (length buffer) (n .at) ≡ true
   has-room = le-leb (n .at + 128) (length buffer) (omega arith)
 
   module _ (on : goesOn (ahead input n .progress) ≡ true) where
-    lines-more : linesFrom (suc k) (n .follower) input (n .next)
-        ≡ bytesOf (ahead input n .line) ++ linesFrom k (ahead input n .follower) input (ahead input n .next)
+    lines-more : linesFrom true (suc k) (n .follower) input (n .next)
+        ≡ bytesOf (ahead input n .line) ++ linesFrom true k (ahead input n .follower) input (ahead input n .next)
     unfolding linesFrom
     lines-more = rw on
 
-    lengths : length (linesFrom (suc k) (n .follower) input (n .next))
-        ≡ length (bytesOf (ahead input n .line)) + length (linesFrom k (ahead input n .follower) input (ahead input n .next))
+    lengths : length (linesFrom true (suc k) (n .follower) input (n .next))
+        ≡ length (bytesOf (ahead input n .line)) + length (linesFrom true k (ahead input n .follower) input (ahead input n .next))
     lengths = ap length lines-more ∙ length-append (bytesOf (ahead input n .line)) _
 
     line-fits : n .at + length (bytesOf (ahead input n .line)) ≤ length buffer
@@ -73,7 +63,7 @@ module _ (input buffer : List ℕ) (k : ℕ) (n : Next) (room : n .at + length (
     next-place : placeAfter buffer (n .at) (bytesOf (ahead input n .line)) ≡ n .at + length (bytesOf (ahead input n .line))
     next-place = put-reaches buffer (n .at) (bytesOf (ahead input n .line)) line-fits
 
-    more-room : bufferedStep input true buffer n .answer .at + length (linesFrom k (ahead input n .follower) input (ahead input n .next)) + 128
+    more-room : bufferedStep input true buffer n .answer .at + length (linesFrom true k (ahead input n .follower) input (ahead input n .next)) + 128
         ≤ length (bufferedStep input true buffer n .buffer)
     more-room = omega (arith, lengths, next-place, put-length buffer (n .at) (bytesOf (ahead input n .line)) line-fits)
 
@@ -84,7 +74,7 @@ module _ (input buffer : List ℕ) (k : ℕ) (n : Next) (room : n .at + length (
     more-lines : Lines k input (bufferedStep input true buffer n .buffer) (bufferedStep input true buffer n .answer) → Lines (suc k) input buffer n
     more-lines rest =
         let line = bytesOf (ahead input n .line) in
-        let others = linesFrom k (ahead input n .follower) input (ahead input n .next) in
+        let others = linesFrom true k (ahead input n .follower) input (ahead input n .next) in
         let fits : n .at + length (line ++ others) ≤ length buffer = omega (arith, length-append line others, lengths) in
         record {
           written =
@@ -97,7 +87,7 @@ module _ (input buffer : List ℕ) (k : ℕ) (n : Next) (room : n .at + length (
         }
 
   module _ (off : goesOn (ahead input n .progress) ≡ false) where
-    lines-last : linesFrom (suc k) (n .follower) input (n .next) ≡ bytesOf (ahead input n .line)
+    lines-last : linesFrom true (suc k) (n .follower) input (n .next) ≡ bytesOf (ahead input n .line)
     unfolding linesFrom
     lines-last = rw off (append-nil (bytesOf (ahead input n .line)))
 
@@ -108,7 +98,7 @@ module _ (input buffer : List ℕ) (k : ℕ) (n : Next) (room : n .at + length (
     last-line : Lines (suc k) input buffer n
     last-line =
         let line = bytesOf (ahead input n .line) in
-        let l : length (linesFrom (suc k) (n .follower) input (n .next)) ≡ length line = ap length lines-last in
+        let l : length (linesFrom true (suc k) (n .follower) input (n .next)) ≡ length line = ap length lines-last in
         let fits : n .at + length line ≤ length buffer = omega arith in
         record {
           written = ap (λ (h : Buffered). h .buffer) buffered-last ∙ ap (λ (x : List ℕ). putAt buffer (n .at) x) (sym lines-last);
@@ -119,13 +109,13 @@ no-lines : (input buffer : List ℕ) (n : Next) → Lines zero input buffer n
 unfolding bufferedFrom linesFrom
 no-lines input buffer n = record { written = put-nothing buffer (n .at) .0; reached-place = omega arith }
 
-lines-written : (input : List ℕ) (k : ℕ) (buffer : List ℕ) (n : Next) → n .at + length (linesFrom k (n .follower) input (n .next)) + 128 ≤ length buffer
+lines-written : (input : List ℕ) (k : ℕ) (buffer : List ℕ) (n : Next) → n .at + length (linesFrom true k (n .follower) input (n .next)) + 128 ≤ length buffer
     → Lines k input buffer n
 lines-written input zero buffer n h = no-lines input buffer n
 lines-written input (suc k) buffer n h = go (goesOn (ahead input n .progress)) refl (lines-written input k (bufferedStep input true buffer n .buffer) (bufferedStep input true buffer n .answer))
   where
     go : (b : Bool) → goesOn (ahead input n .progress) ≡ b
-        → (bufferedStep input true buffer n .answer .at + length (linesFrom k (ahead input n .follower) input (ahead input n .next)) + 128
+        → (bufferedStep input true buffer n .answer .at + length (linesFrom true k (ahead input n .follower) input (ahead input n .next)) + 128
         ≤ length (bufferedStep input true buffer n .buffer) → Lines k input (bufferedStep input true buffer n .buffer) (bufferedStep input true buffer n .answer))
         → Lines (suc k) input buffer n
     go true e ih = more-lines input buffer k n h e (ih (more-room input buffer k n h e))
@@ -136,16 +126,16 @@ ended-so : (p : Progress) → goesOn p ≡ false → (p ≡ More → ⊥) → fi
 ended-so Went e m = let z : _≡_ {A = ℕ} 0 1 = cc in absurd (omega arith)
 ended-so More e m = absurd (m refl)
 ended-so Done e m = refl
-ended-so Refused e m = refl
+ended-so (Refused number) e m = refl
 
 comes-to-end : (input : List ℕ) (k : ℕ) (buffer : List ℕ) (n : Next) → n .next ≤ length input → length input < n .next + k
-    → n .at + length (linesFrom k (n .follower) input (n .next)) + 128 ≤ length buffer → finished (bufferedFrom k input true buffer n .answer .progress) ≡ true
+    → n .at + length (linesFrom true k (n .follower) input (n .next)) + 128 ≤ length buffer → finished (bufferedFrom k input true buffer n .answer .progress) ≡ true
 comes-to-end input zero buffer n i j h = absurd (omega arith)
 comes-to-end input (suc k) buffer n i j h = go (goesOn (ahead input n .progress)) refl (comes-to-end input k (bufferedStep input true buffer n .buffer) (bufferedStep input true buffer n .answer))
   where
     go : (b : Bool) → goesOn (ahead input n .progress) ≡ b
         → (ahead input n .next ≤ length input → length input < ahead input n .next + k
-        → bufferedStep input true buffer n .answer .at + length (linesFrom k (ahead input n .follower) input (ahead input n .next)) + 128
+        → bufferedStep input true buffer n .answer .at + length (linesFrom true k (ahead input n .follower) input (ahead input n .next)) + 128
         ≤ length (bufferedStep input true buffer n .buffer)
         → finished (bufferedFrom k input true (bufferedStep input true buffer n .buffer) (bufferedStep input true buffer n .answer) .answer .progress) ≡ true)
         → finished (bufferedFrom (suc k) input true buffer n .answer .progress) ≡ true
@@ -161,7 +151,7 @@ comes-to-end input (suc k) buffer n i j h = go (goesOn (ahead input n .progress)
 pub whole-recording : (input buffer : List ℕ) → length (followOf input) + 128 ≤ length buffer → WholeRecording input buffer
 unfolding followOf bufferedOf
 whole-recording input buffer h =
-    let lines = linesFrom (suc (length input)) atBegin input 0 in
+    let lines = linesFrom true (suc (length input)) atBegin input 0 in
     let l : length (headerOf ++ lines) ≡ length headerOf + length lines = length-append headerOf lines in
     let fits : 0 + length headerOf ≤ length buffer = omega arith in
     let whole : 0 + length (headerOf ++ lines) ≤ length buffer = omega arith in

@@ -21,7 +21,7 @@ abbrev pub finished : Progress → Bool
 finished Went = false
 finished More = false
 finished Done = true
-finished Refused = true
+finished (Refused number) = true
 
 pub record WholeRecording (input buffer : List ℕ) : Type 0 where
   -- the buffer has the bytes of FOLLOWING A RECORDING at its front, and is else as it was

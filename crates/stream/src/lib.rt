@@ -33,7 +33,7 @@ fn goes_on(progress: Progress) -> bool
         Progress::Went => true,
         Progress::More => false,
         Progress::Done => false,
-        Progress::Refused => false,
+        Progress::Refused(_) => false,
     }
 }
 

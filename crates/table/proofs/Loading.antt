@@ -102,8 +102,8 @@ storedTo ys d i = firstSteps latter i ys (d .stations)
 pub length-storedTo : (ys : List Station) (d : Loaded) (i : ℕ) → length (storedTo ys d i) ≡ length ys
 length-storedTo ys d i = length-firstSteps latter i ys (d .stations)
 
-pub storedTo-more : (ys : List Station) (d : Loaded) (i : ℕ) → i < length ys → i < length (d .stations) → set (storedTo ys d i) i (getD (d .stations) i absent) ≡ storedTo ys d (i + 1)
-storedTo-more ys d i l m = set-firstSteps latter i ys (d .stations) absent absent l m ∙ ap (storedTo ys d) (sym (add-one i))
+pub storedTo-more : (ys : List Station) (d : Loaded) (i : ℕ) → i < length ys → i < length (d .stations) → set (storedTo ys d i) i (getD (d .stations) i noStation) ≡ storedTo ys d (i + 1)
+storedTo-more ys d i l m = set-firstSteps latter i ys (d .stations) absent noStation l m ∙ ap (storedTo ys d) (sym (add-one i))
 
 pub storedTo-all : (ys : List Station) (d : Loaded) → length (d .stations) ≡ 64 → storedTo ys d (copiesOf (length ys) (d .count)) ≡ storeOf ys d
 unfolding storeOf

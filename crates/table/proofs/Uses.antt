@@ -19,10 +19,10 @@ use denote.Steps.{nothing}
 use denote.Triple.Statement.{Contract}
 use denote.Triple.Clauses.{ensured, lasts}
 use denote.Triple.Spec.{tripleOf}
-use denote.Triple.Walked.{says}
 use Rattle.rules.specs.declared.Station.{Station}
+use Rattle.rules.specs.StationCalls.{noStation}
 use Rattle.table.specs.declared.Loaded.{Loaded}
-use Rattle.table.specs.Loading.{absent, of, copiesOf, blankStations}
+use Rattle.table.specs.Loading.{of, copiesOf, blankStations}
 use Rattle.table.proofs.DataKinds.{vals, of-uint}
 use Rattle.table.proofs.Returned.{owned-of, value-returned, Use}
 use Rattle.table.proofs.Values.{station, stations, loaded}
@@ -71,10 +71,10 @@ module _ {M : Type 1} (𝓤 : URA M) (H : Heap 𝓤) (A : Atoms 𝓤) (mem : Mem
   abbrev pub Get : Contract 𝓤
   Get = tripleOf 𝓤 H A get′.signature (get′.spec 𝓤 H A mem run)
 
-  pub use-get : Given 𝓤 H A → (d : Loaded) (i : ℕ) → Is (loaded .R) d (vals loaded d) → i < 2 ^ 64 → i < 64
-      → Use 𝓤 H Get ((tt, tt, tt, (d, (i, tt)), (vals loaded d, (vint w64 i ∷ [], tt))), tt) station (getD (d .stations) i absent)
-  use-get W d i gd gi within = record {
-    asks = qed W [] ∵ says ! within $ nothing ! $ owned-of ! (of-uint w64) i _ (refl, gi) $ fjoin ! $ owned-of ! loaded d _ gd $ fjoin ! $ nothing ! $ done !;
-    says = λ v. value-returned 𝓤 H A W station (getD (d .stations) i absent) v (ensured 𝓤 H A get′.ended (get′.clauses 𝓤 H A mem run) tt (d, (i, tt)) tt)
-        (λ r. exE 𝓤 _ (λ ws. snd∗ 𝓤 (sem 𝓤 H A (lasts get′.ended tt (d, (i, tt)) ws)) (fact 𝓤 (r ≡ getD (d .stations) i absent))));
+  pub use-get : Given 𝓤 H A → (d : Loaded) (i : ℕ) → Is (loaded .R) d (vals loaded d) → i < 2 ^ 64
+      → Use 𝓤 H Get ((tt, tt, tt, (d, (i, tt)), (vals loaded d, (vint w64 i ∷ [], tt))), tt) station (getD (d .stations) i noStation)
+  use-get W d i gd gi = record {
+    asks = qed W [] ∵ nothing ! $ owned-of ! (of-uint w64) i _ (refl, gi) $ fjoin ! $ owned-of ! loaded d _ gd $ fjoin ! $ nothing ! $ join ! $ frame ! $ done !;
+    says = λ v. value-returned 𝓤 H A W station (getD (d .stations) i noStation) v (ensured 𝓤 H A get′.ended (get′.clauses 𝓤 H A mem run) tt (d, (i, tt)) tt)
+        (λ r. exE 𝓤 _ (λ ws. snd∗ 𝓤 (sem 𝓤 H A (lasts get′.ended tt (d, (i, tt)) ws)) (fact 𝓤 (r ≡ getD (d .stations) i noStation))));
   }

@@ -2,9 +2,10 @@
 use conditions::limits::no_station;
 use rules::Station;
 ghost use mathlib.Core.Path.{_≡_};
-ghost use Prim.Native.Nat.{_<_, min};
+ghost use Prim.Native.Nat.{min};
 ghost use lib.ListN.{getD};
-ghost use Rattle.table.specs.Loading.{absent, of, copiesOf, blankStations, loadOf, storeOf};
+ghost use Rattle.rules.specs.StationCalls.{noStation};
+ghost use Rattle.table.specs.Loading.{of, copiesOf, blankStations, loadOf, storeOf};
 
 // The lent table by value: its first 64 records, and how many it has.
 pub struct Loaded {
@@ -38,12 +39,11 @@ pub fn hold(stations: [Station; 64], count: usize) -> Loaded
     Loaded { stations, count }
 }
 
-// Station i of a table.
+// Station i of a table, and no station beyond its 64 records.
 pub fn get(d: Loaded, i: usize) -> Station
-    requires { ⌜ i < 64 ⌝ }
-    ensures { λ r. ⌜ r ≡ getD (d .stations) i absent ⌝ }
+    ensures { λ r. ⌜ r ≡ getD (d .stations) i noStation ⌝ }
 {
-    d.stations[i]
+    if i < 64 { d.stations[i] } else { no_station() }
 }
 
 // The lent table by value.

@@ -3,11 +3,12 @@
 -- Assumes nothing.
 use mathlib.Core.Path.{_≡_, refl, _∙_}
 use mathlib.Core.List.{foldl}
-use Prim.Native.Nat.{_+_, _*_, _-_, _≤_, _<_}
+use Prim.Native.Nat.{_+_, _*_, _-_, _≤_, _<_, min}
 use native.Mathlib.Numerals.{add-one}
 use native.Mathlib.Omega.{arith}
 use borrow.Author.Needs.{needs}
 use lib.ListN.{length, take, length-map, List·getD-map}
+use Rattle.listlaws.proofs.Beyond.{take-most}
 use Rattle.listlaws.proofs.Fold.{fold-more}
 use Rattle.minislot.specs.declared.MinislotFeedback.{MinislotFeedback}
 use Rattle.minislot.specs.declared.Feedback.the-variants.{Empty}
@@ -24,6 +25,9 @@ Inv-loop success m row n p₀ j₀ p j =
 abbrev μ-loop : tie.MeasureT-loop
 μ-loop success m row n p₀ j₀ p j = n - j
 
+held-requires : tie.Need-held-requires Inv-loop μ-loop
+held-requires c κs = search needs
+
 loop-holds : tie.Need-loop-holds Inv-loop μ-loop
 loop-holds c = (omega arith, refl, omega arith, omega arith, omega arith)
 
@@ -34,7 +38,7 @@ array-copy-out-slot : tie.Need-array-copy-out-slot Inv-loop μ-loop
 array-copy-out-slot c = search needs
 
 queue-requires : tie.Need-queue-requires Inv-loop μ-loop
-queue-requires c κs = omega arith
+queue-requires c κs = omega (arith, c .before .before .before .held .ensures)
 
 add-j : tie.Need-add-j Inv-loop μ-loop
 add-j c = search needs
@@ -45,7 +49,7 @@ loop-less c = search needs
 loop-again : tie.Need-loop-again Inv-loop μ-loop
 loop-again c =
     let l = c .before .before .before .loop in
-    let a = c .before .before .before .before .args in
+    let a = c .before .before .before .before .before .args in
     let blank : MinislotFeedback = record { feedback = Empty } in
     let w : length (a .t3) ≡ 8 = search needs in
     let n : l .j < length (feedbackIn (a .t3)) = rw length-map (omega arith) in (
@@ -61,8 +65,10 @@ loop-again c =
 returns : tie.Need-returns Inv-loop μ-loop
 unfolding queuedRow
 returns c =
-    let n : c .before .loop .j ≡ c .before .before .args .m = omega arith in
-    c .before .loop .inv .1 ∙ rw n
+    let a = c .before .before .before .args in
+    let w : length (a .t3) ≡ 8 = search needs in
+    let n : c .before .loop .j ≡ min (a .m) 8 = omega (arith, c .before .before .held .ensures) in
+    c .before .loop .inv .1 ∙ rw (n, take-most (a .m) 8 (feedbackIn (a .t3)) (rw length-map w))
 
 pub queue-row-spec : {M : Type 1} → statement M
 queue-row-spec =
@@ -70,6 +76,7 @@ queue-row-spec =
     (tie.spec
     Inv-loop
     μ-loop
+    held-requires
     loop-holds
     mul-slot
     array-copy-out-slot

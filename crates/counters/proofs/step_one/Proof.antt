@@ -1,24 +1,20 @@
 -- `step_one` is step 1, each part by the function of its rule. Assumes nothing.
-use native.Mathlib.Omega.{arith}
 use Rattle.rules.specs.Queueing.{immediateOf, placesAfter, stepOneOf}
-use Rattle.rules.proofs.LimitLaws.{within-limits}
 use borrow.Author.Needs.{needs}
 use Rattle.counters.proofs.step_one.Statement.{statement}
 use Rattle.counters.proofs.step_one.Tie as tie
 
 places-of-requires : tie.Need-places-of-requires
-places-of-requires c κs = let w = within-limits (c .before .args .c) (c .before .pre .0) in (w .next .0, omega arith)
+places-of-requires c κs = search needs
 
 opened-of-requires : tie.Need-opened-of-requires
-opened-of-requires c κs = let w = within-limits (c .before .before .args .c) (c .before .before .pre .0) in (w .next .0, omega arith)
+opened-of-requires c κs = search needs
 
 immediate-success-requires : tie.Need-immediate-success-requires
 immediate-success-requires c κs = search needs
 
 queue-row-requires : tie.Need-queue-row-requires
-queue-row-requires c κs =
-    let w = within-limits (c .before .before .before .before .args .c) (c .before .before .before .before .pre .0) in
-    (w .minislots .1, c .before .before .places-of .ensures .1)
+queue-row-requires c κs = c .before .before .places-of .ensures .1
 
 passes-limit-requires : tie.Need-passes-limit-requires
 passes-limit-requires c κs = search needs
@@ -32,7 +28,7 @@ returns c =
       c .before .before .immediate-success .ensures,
       c .before .before .before .opened-of .ensures,
       c .before .before .before .before .places-of .ensures .0,
-      c .before .before .before .before .before .before .pre .1,
+      c .before .before .before .before .before .before .pre,
     )
 
 pub step-one-spec : {M : Type 1} → statement M

@@ -6,10 +6,10 @@ use Rattle.follow.proofs.follow_input.Statement.{statement}
 use Rattle.follow.proofs.follow_input.Tie as tie
 
 abbrev Inv-loop : tie.InvT-loop
-Inv-loop fd name input₀ out₀ at s₀ rounds₀ input out s rounds = Unit {0}
+Inv-loop fd name input₀ out₀ s₀ rounds₀ input out s rounds = Unit {0}
 
 abbrev μ-loop : tie.MeasureT-loop
-μ-loop fd name input₀ out₀ at s₀ rounds₀ input out s rounds = rounds
+μ-loop fd name input₀ out₀ s₀ rounds₀ input out s rounds = rounds
 
 large-buffer-requires : tie.Need-large-buffer-requires Inv-loop μ-loop
 large-buffer-requires c κs = search needs
@@ -23,17 +23,17 @@ slice-aggregate-input c = search needs
 slice-aggregate-out : tie.Need-slice-aggregate-out Inv-loop μ-loop
 slice-aggregate-out c = search needs
 
-put-header-requires : tie.Need-put-header-requires Inv-loop μ-loop
-put-header-requires c κs = search needs
-
-begin-requires : tie.Need-begin-requires Inv-loop μ-loop
-begin-requires c κs = search needs
+begin-run-requires : tie.Need-begin-run-requires Inv-loop μ-loop
+begin-run-requires c κs = search needs
 
 loop-holds : tie.Need-loop-holds Inv-loop μ-loop
 loop-holds c = tt
 
-round-requires : tie.Need-round-requires Inv-loop μ-loop
-round-requires c κs = search needs
+follow-round-requires : tie.Need-follow-round-requires Inv-loop μ-loop
+follow-round-requires c κs = search needs
+
+serve-requires : tie.Need-serve-requires Inv-loop μ-loop
+serve-requires c κs = search needs
 
 sub-rounds : tie.Need-sub-rounds Inv-loop μ-loop
 sub-rounds c = omega arith
@@ -60,10 +60,10 @@ follow-input-spec =
     large-buffer-requires-2
     slice-aggregate-input
     slice-aggregate-out
-    put-header-requires
-    begin-requires
+    begin-run-requires
     loop-holds
-    round-requires
+    follow-round-requires
+    serve-requires
     sub-rounds
     loop-less
     loop-again

@@ -1,6 +1,6 @@
--- `follow_next` cuts and reads the record and writes its line.
+-- `follow_next` cuts and reads the record and writes its line; what became of the record tells its number.
 -- Assumes nothing.
-use mathlib.Core.Path.{_≡_, refl, ap, sym, _∙_}
+use Rattle.follower.proofs.NumbersHold.{next-told}
 use borrow.Author.Needs.{needs}
 use Rattle.follower.proofs.follow_next.Statement.{statement}
 use Rattle.follower.proofs.follow_next.Tie as tie
@@ -15,7 +15,10 @@ same-length : tie.Need-same-length
 same-length c = search needs
 
 returns : tie.Need-returns
-returns c = rw (← c .before .before .before .before .before .advance-at .ensures) (c .before .before .put .ensures .0, rw (c .before .before .put .ensures .1))
+returns c =
+    let cut = c .before .before .before .before .before .advance-at .ensures in
+    let put = c .before .before .put .ensures in
+    (rw (← cut) (put .0), (rw (← cut, put .1), rw cut (next-told _ _ _ _)))
 
 pub follow-next-spec : {M : Type 1} → statement M
 follow-next-spec = tie.close (tie.spec advance-at-requires put-requires same-length returns)

@@ -10,8 +10,8 @@ enum-told c = search needs
 enum-told-2 : tie.Need-enum-told-2
 enum-told-2 c = search needs
 
-enum-told-3 : tie.Need-enum-told-3
-enum-told-3 c = search needs
+enum-known-line : tie.Need-enum-known-line
+enum-known-line c = search needs
 
 returns : tie.Need-returns
 returns c = search needs
@@ -20,8 +20,8 @@ returns-2 : tie.Need-returns-2
 returns-2 c = search needs
 
 returns-3 : tie.Need-returns-3
-returns-3 c = search needs
+returns-3 c = rw (c .before .line .given .1)
 
 pub progress-of-spec : {M : Type 1} → statement M
 progress-of-spec =
-    tie.close (tie.spec enum-told enum-told-2 enum-told-3 returns returns-2 returns-3)
+    tie.close (tie.spec enum-told enum-told-2 enum-known-line returns returns-2 returns-3)

@@ -1,8 +1,11 @@
--- `read_record` goes by whether the first record is to come.
+-- `read_record` goes by whether the first record is to come: a row, or what the reading of the first record leads to.
 -- Assumes nothing.
-use mathlib.Core.Path.{_≡_, refl, ap, sym, _∙_}
+use mathlib.Core.Path.{_∙_}
 use borrow.Author.Tests.{lt-ltb, le-ltb}
+use Rattle.follower.specs.RecordNumbers.{recordNumberOf}
 use Rattle.follower.specs.Following.{followRecord}
+use Rattle.follower.specs.Steps.{firstStep, rowStep}
+use Rattle.follower.proofs.FirstReads.{first-broken, first-numbers}
 use borrow.Author.Needs.{needs}
 use Rattle.follower.proofs.read_record.Statement.{statement}
 use Rattle.follower.proofs.read_record.Tie as tie
@@ -11,7 +14,7 @@ row-requires : tie.Need-row-requires
 row-requires c κs = search needs
 
 returns : tie.Need-returns
-unfolding followRecord
+unfolding followRecord recordNumberOf rowStep
 returns c = rw (lt-ltb _ _ (c .before .if1 .taken)) (c .row .ensures)
 
 first-fields-requires : tie.Need-first-fields-requires
@@ -30,12 +33,18 @@ start-with-requires : tie.Need-start-with-requires
 start-with-requires c κs = search needs
 
 returns-2 : tie.Need-returns-2
-unfolding followRecord
-returns-2 c = rw (le-ltb _ _ (c .before .before .before .before .if1 .left), ← c .before .before .before .first-fields .ensures .0, c .before .enum-told .given .1) (c .refused .ensures)
+unfolding followRecord recordNumberOf firstStep
+returns-2 c =
+    let a = c .before .before .before .before .before .before .before .args in
+    rw (le-ltb _ _ (c .before .before .before .before .if1 .left))
+    (c .refused .ensures ∙ first-broken (a .f) (a .bytes .now) _ (c .before .before .before .first-fields .ensures .0) (c .before .enum-told .given .1))
 
 returns-3 : tie.Need-returns-3
-unfolding followRecord
-returns-3 c = rw (le-ltb _ _ (c .before .before .before .before .before .if1 .left), ← c .before .before .before .before .first-fields .ensures .0, c .before .before .first .given .1) (c .start-with .ensures)
+unfolding followRecord recordNumberOf firstStep
+returns-3 c =
+    let a = c .before .before .before .before .before .before .before .before .args in
+    rw (le-ltb _ _ (c .before .before .before .before .before .if1 .left))
+    (c .start-with .ensures ∙ first-numbers (a .f) (a .bytes .now) _ (c .before .before .before .before .first-fields .ensures .0) _ _ (c .before .before .first .given .1))
 
 pub read-record-spec : {M : Type 1} → statement M
 read-record-spec =

@@ -11,7 +11,7 @@ use Rattle.listener.proofs.listen_row.Statement.{statement}
 use Rattle.listener.proofs.listen_row.Tie as tie
 
 step-one-requires : tie.Need-step-one-requires
-step-one-requires c κs = (c .pre .0, c .pre .1 .weighed)
+step-one-requires c κs = c .pre .1 .weighed
 
 turn-requires : tie.Need-turn-requires
 turn-requires c κs = search needs

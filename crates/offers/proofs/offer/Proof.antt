@@ -22,10 +22,7 @@ returns c =
     c .refuse-offer .ensures ∙ rw (← c .before .before .offer-number .ensures, ne-eqb k 0 (c .before .if1 .taken))
 
 position-of-requires : tie.Need-position-of-requires
-position-of-requires c κs =
-    let a = c .before .before .args in
-    let full : length (a .stations) ≡ 64 = search needs in
-    passed-most (a .stations) (a .n) (a .wire) (a .index) (a .bytes) full (sym (c .before .offer-number .ensures) ∙ c .if1 .left)
+position-of-requires c κs = search needs
 
 take-message-requires : tie.Need-take-message-requires
 take-message-requires c κs =

@@ -21,7 +21,7 @@ returns c =
     array-14 (a .t1) (a .n) (a .wire) (a .index) (a .bytes) full (sym (c .before .has-stations .ensures) ∙ not-true _ (c .if1 .taken))
 
 sound-requires : tie.Need-sound-requires
-sound-requires c κs = few-true (c .before .before .args .n) (sym (c .before .has-stations .ensures) ∙ not-false _ (c .if1 .left))
+sound-requires c κs = search needs
 
 returns-2 : tie.Need-returns-2
 returns-2 c =
@@ -30,7 +30,7 @@ returns-2 c =
     array-18 (a .t1) (a .n) (a .wire) (a .index) (a .bytes) full (sym (c .before .before .before .has-stations .ensures) ∙ not-false _ (c .before .before .if1 .left)) (sym (c .before .sound .ensures) ∙ not-true _ (c .if2 .taken))
 
 position-of-requires : tie.Need-position-of-requires
-position-of-requires c κs = few-true (c .before .before .before .before .args .n) (sym (c .before .before .before .has-stations .ensures) ∙ not-false _ (c .before .before .if1 .left)) .1
+position-of-requires c κs = search needs
 
 returns-3 : tie.Need-returns-3
 returns-3 c =

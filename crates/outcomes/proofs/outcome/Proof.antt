@@ -33,7 +33,7 @@ fall-requires c κs =
     )
 
 successes-in-requires : tie.Need-successes-in-requires
-successes-in-requires c κs = within-limits (c .before .before .before .before .before .before .args .c) (c .before .before .before .before .before .before .pre .within) .minislots .1
+successes-in-requires c κs = search needs
 
 returns : tie.Need-returns
 unfolding outcomeBy

@@ -23,7 +23,7 @@ add-t9 c =
     omega (arith, q, c .before .delivered-now .ensures)
 
 put-row-requires : tie.Need-put-row-requires
-put-row-requires c κs = c .before .before .before .before .before .before .pre .group (c .before .before .before .before .if1 .left)
+put-row-requires c κs = search needs
 
 returns-2 : tie.Need-returns-2
 unfolding replyOf

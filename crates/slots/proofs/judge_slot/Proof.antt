@@ -3,7 +3,6 @@ use mathlib.Core.Path.{_≡_, sym, _∙_}
 use lib.ListN.{length}
 use borrow.Author.Needs.{needs}
 use borrow.Author.Tests.{not-true, not-false}
-use Rattle.calls.proofs.ByValue.{few-true}
 use Rattle.slots.proofs.Rows.{array-14, array-18, array-on, array-readable}
 use Rattle.slots.proofs.judge_slot.Statement.{statement}
 use Rattle.slots.proofs.judge_slot.Tie as tie
@@ -21,7 +20,7 @@ returns c =
     c .refuse-slot .ensures ∙ array-14 (a .t1) (a .n) (a .wire) full (a .picks .now) (sym (c .before .before .has-stations .ensures) ∙ not-true _ (c .before .if1 .taken))
 
 sound-requires : tie.Need-sound-requires
-sound-requires c κs = few-true (c .before .before .before .args .n) (sym (c .before .has-stations .ensures) ∙ not-false _ (c .if1 .left))
+sound-requires c κs = search needs
 
 refuse-slot-requires-2 : tie.Need-refuse-slot-requires-2
 refuse-slot-requires-2 c κs = search needs

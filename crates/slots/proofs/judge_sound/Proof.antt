@@ -35,15 +35,13 @@ returns-2 c ch s =
     ∙ on-11 (a .c) (a .n) (a .wire) (a .picks .now) (c .before .before .before .before .before .pre) (c .before .before .before .if1 .left) (sym (c .before .before .picks-within .ensures) ∙ not-true _ (c .before .if2 .taken)) ch s
 
 read-group-requires : tie.Need-read-group-requires
-read-group-requires c κs = c .before .before .before .before .pre .within
+read-group-requires c κs = search needs
 
 step-one-requires : tie.Need-step-one-requires
 step-one-requires c κs =
-    let a = c .before .before .before .before .before .args in (
-      c .before .before .before .before .before .pre .within,
-      subst (λ (row : RowReading). row .weight ≡ weight (feedbackOf (a .c .minislots) row)) (sym (c .read-group .ensures))
-          (row-read (a .c) (a .n) (a .wire) (a .picks .now) (c .before .before .before .before .before .pre) .weighed),
-    )
+    let a = c .before .before .before .before .before .args in
+    subst (λ (row : RowReading). row .weight ≡ weight (feedbackOf (a .c .minislots) row)) (sym (c .read-group .ensures))
+    (row-read (a .c) (a .n) (a .wire) (a .picks .now) (c .before .before .before .before .before .pre) .weighed)
 
 refuse-slot-requires-3 : tie.Need-refuse-slot-requires-3
 refuse-slot-requires-3 c κs = search needs

@@ -6,7 +6,7 @@ use borrow.Author.Tests.{le-leb, lt-leb}
 use Rattle.minislot.specs.declared.RowReading.{RowReading}
 use Rattle.rules.specs.Limits.{between}
 use Rattle.rules.specs.StationCalls.{refusedSlot}
-use Rattle.rules.proofs.RowReads.{read-row, worded}
+use Rattle.rules.proofs.RowReads.{read-row}
 use Rattle.rules.proofs.StationLaws.{slot-6, slot-11, slot-bad, slot-heard}
 use borrow.Author.Needs.{needs}
 use Rattle.station.proofs.hear.Statement.{statement}
@@ -56,7 +56,6 @@ hear-row-requires c κs =
     let none = is ∙ c .if4 .taken in
     record {
       within = within;
-      worded = worded (a .s .counters .minislots) (a .words .now) (a .counts .now) none;
       read = rw (c .before .before .before .before .read-row .ensures) (read-row (a .s .counters .minislots) (a .words .now) (a .counts .now) none);
     }
 

@@ -48,7 +48,7 @@ loop-again c =
     let goes = sym (c .before .goes-on .ensures) ∙ c .if2 .taken in (
       omega arith,
       omega (arith, v .kept .1 .1 .1 .1 .0, l .inv .1),
-      sym (went-on (a .bytes .now) (a .ended) (l .out) (l .n) _ _ (v .ensures .0) (v .ensures .1) room (l .rounds) (c .before .before .before .before .before .before .before .before .before .loop-test .taken) goes) ∙ l .inv .2,
+      sym (went-on (a .bytes .now) (a .ended) (l .out) (l .n) _ _ (v .ensures .0) (v .ensures .1 .0) room (l .rounds) (c .before .before .before .before .before .before .before .before .before .loop-test .taken) goes) ∙ l .inv .2,
     )
 
 same-length : tie.Need-same-length Inv-loop μ-loop
@@ -62,7 +62,7 @@ returns c =
     let room = sym (c .before .before .before .before .before .before .before .before .room-for .ensures) ∙ c .before .before .before .before .before .before .before .if1 .taken in
     let goes = sym (c .before .goes-on .ensures) ∙ c .if2 .left in
     parts-are
-    (sym (stopped (a .bytes .now) (a .ended) (l .out) (l .n) _ _ (v .ensures .0) (v .ensures .1) room (l .rounds) (c .before .before .before .before .before .before .before .before .before .loop-test .taken) goes)
+    (sym (stopped (a .bytes .now) (a .ended) (l .out) (l .n) _ _ (v .ensures .0) (v .ensures .1 .0) room (l .rounds) (c .before .before .before .before .before .before .before .before .before .loop-test .taken) goes)
     ∙ l .inv .2
     ∙ begun (a .f) (a .bytes .now) (a .start) (a .ended) (a .out .now) (a .at))
 

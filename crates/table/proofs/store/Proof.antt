@@ -41,6 +41,7 @@ use denote.Triple.Spec.{Meets, tripleOf}
 use denote.Triple.Table.{entered, cited}
 use denote.Triple.Walked.{says, Stays, stay-slice, stay-none, walkOf, Walks, ends-at, walked, goes-slice, goes-none, walk-meets}
 use Rattle.rules.specs.declared.Station.{Station}
+use Rattle.rules.specs.StationCalls.{noStation}
 use Rattle.table.specs.declared.Loaded.{Loaded}
 use Rattle.table.specs.Loading.{absent, copiesOf, storeOf}
 use Rattle.table.proofs.Looping.{after, Upto, Nearer, Nearer-wf, next, next-nearer, at-end}
@@ -148,7 +149,7 @@ module _ {M : Type 1} (𝓤 : URA M) (H : Heap 𝓤) (A : Atoms 𝓤) (W : Given
     unfolding afterTurn
     steps i less =
         -- _7 = get(_2, _4)
-        calls-value ! (fmOf 𝓤 H (W .laws) 𝓣) known (use-get 𝓤 H A mem run W d (i .0) gd (lt-of-lt-of-le inside (le-of-lt (room .0))) below)
+        calls-value ! (fmOf 𝓤 H (W .laws) 𝓣) known (use-get 𝓤 H A mem run W d (i .0) gd (lt-of-lt-of-le inside (le-of-lt (room .0))))
         (and-then ! (load ! (from ! (stop !)) (look ! 16 refl)) (and-then ! (load ! (from ! (stop !)) (look ! 12 refl)) (no-more !))) (λ gr.
         land ! (from ! (stop !)) (init ! 5 refl (station .typed 𝓤 H A W r _ gr)) $
         -- t[i] = _7
@@ -165,7 +166,7 @@ module _ {M : Type 1} (𝓤 : URA M) (H : Heap 𝓤) (A : Atoms 𝓤) (W : Given
         again ! (Nearer n) At i (next n i less) (next-nearer n i less)))
       where
         r : Station
-        r = getD (d .stations) (i .0) absent
+        r = getD (d .stations) (i .0) noStation
 
         inside : i .0 < length ys
         inside = lt-of-lt-of-le less (copies-fit (length ys) (d .count) .first)

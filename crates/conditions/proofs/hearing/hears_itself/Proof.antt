@@ -12,16 +12,19 @@ use Rattle.conditions.proofs.hearing.hears_itself.Statement.{statement}
 use Rattle.conditions.proofs.hearing.hears_itself.Tie as tie
 
 abbrev Inv-loop : tie.InvT-loop
-Inv-loop s words row m own total j₀ j = (j ≤ m) × ((i : ℕ) → i < j → hearsAt (s .index) own total (i + 1) (getD words i 0) (getD row i blank .feedback) ≡ true)
+Inv-loop s words row own total end j₀ j = (j ≤ end) × ((i : ℕ) → i < j → hearsAt (s .index) own total (i + 1) (getD words i 0) (getD row i blank .feedback) ≡ true)
 
 abbrev μ-loop : tie.MeasureT-loop
-μ-loop s words row m own total j₀ j = m - j
+μ-loop s words row own total end j₀ j = end - j
 
 own-minislot-requires : tie.Need-own-minislot-requires Inv-loop μ-loop
 own-minislot-requires c κs = search needs
 
 own-total-requires : tie.Need-own-total-requires Inv-loop μ-loop
 own-total-requires c κs = search needs
+
+heard-requires : tie.Need-heard-requires Inv-loop μ-loop
+heard-requires c κs = search needs
 
 loop-holds : tie.Need-loop-holds Inv-loop μ-loop
 loop-holds c = (omega arith, λ k h. absurd (omega arith))
@@ -58,17 +61,19 @@ loop-again c = (omega arith, below-more _ _ (c .before .before .before .before .
 
 returns : tie.Need-returns Inv-loop μ-loop
 returns c =
-    let a = c .before .before .before .before .before .before .before .before .before .args in
+    let a = c .before .before .before .before .before .before .before .before .before .before .args in
     let full : length (a .t3) ≡ 8 = search needs in
-    let p = c .before .before .before .before .before .before .before .before .before .pre in
-    misses (a .s) (a .words .now) (a .t3) (c .before .before .before .before .before .before .before .own-minislot .result) (c .before .before .before .before .before .before .own-total .result) (omega arith) (p .1) (c .before .before .before .before .before .before .before .own-minislot .ensures) (c .before .before .before .before .before .before .own-total .ensures) (c .before .before .before .before .before .loop .j) (omega arith) (sym (c .before .hears-at .ensures) ∙ c .if1 .left)
+    let own = c .before .before .before .before .before .before .before .before .own-minislot in
+    let total = c .before .before .before .before .before .before .before .own-total in
+    misses (a .s) (a .words .now) (a .t3) (own .result) (total .result) (own .ensures) (total .ensures) (c .before .before .before .before .before .loop .j) (omega (arith, c .before .before .before .before .before .before .heard .ensures)) (sym (c .before .hears-at .ensures) ∙ c .if1 .left)
 
 returns-2 : tie.Need-returns-2 Inv-loop μ-loop
 returns-2 c =
-    let a = c .before .before .before .before .before .args in
+    let a = c .before .before .before .before .before .before .args in
     let full : length (a .t3) ≡ 8 = search needs in
-    let p = c .before .before .before .before .before .pre in
-    hears (a .s) (a .words .now) (a .t3) (c .before .before .before .own-minislot .result) (c .before .before .own-total .result) (omega arith) (p .1) (c .before .before .before .own-minislot .ensures) (c .before .before .own-total .ensures) (λ i h. c .before .loop .inv .1 i (omega arith))
+    let own = c .before .before .before .before .own-minislot in
+    let total = c .before .before .before .own-total in
+    hears (a .s) (a .words .now) (a .t3) (own .result) (total .result) (own .ensures) (total .ensures) (λ i h. c .before .loop .inv .1 i (omega (arith, c .before .before .heard .ensures)))
 
 pub hears-itself-spec : {M : Type 1} → statement M
 hears-itself-spec =
@@ -78,6 +83,7 @@ hears-itself-spec =
     μ-loop
     own-minislot-requires
     own-total-requires
+    heard-requires
     loop-holds
     cast-i
     mul-slot

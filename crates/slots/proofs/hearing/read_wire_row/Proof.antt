@@ -6,7 +6,7 @@ use Rattle.rules.specs.Hearing.{wordsOf, countsOf}
 use Rattle.minislot.specs.declared.Minislot.{Minislot}
 use lib.ListN.{length}
 use native.Mathlib.Omega.{arith}
-use Prim.Native.Nat.{_-_, _≤_}
+use Prim.Native.Nat.{_-_, _≤_, min}
 use mathlib.Core.Path.{_≡_, refl, _∙_, ap}
 use borrow.Author.Needs.{needs}
 use Rattle.slots.proofs.hearing.read_wire_row.Statement.{statement}
@@ -17,6 +17,9 @@ Inv-loop m minislots end words₀ counts₀ j₀ words counts j = (j ≤ 8) × (
 
 abbrev μ-loop : tie.MeasureT-loop
 μ-loop m minislots end words₀ counts₀ j₀ words counts j = 8 - j
+
+held-requires : tie.Need-held-requires Inv-loop μ-loop
+held-requires c κs = search needs
 
 loop-holds : tie.Need-loop-holds Inv-loop μ-loop
 loop-holds c = (omega arith, refl, refl)
@@ -43,8 +46,7 @@ loop-less : tie.Need-loop-less Inv-loop μ-loop
 loop-less c = search needs
 
 loop-again : tie.Need-loop-again Inv-loop μ-loop
-loop-again c = let a = c .before .before .before .args in
-    let q = c .before .before .before .pre in
+loop-again c = let a = c .before .before .before .before .args in
     let l = c .before .before .loop in
     let w : length (a .t1) ≡ 8 = search needs in
     (omega arith, rw (l .inv .1) (copied-more (λ (x : Minislot). x .word) refl (a .t1) w (l .j) (omega arith)), rw (l .inv .2) (copied-more (λ (x : Minislot). x .count) refl (a .t1) w (l .j) (omega arith)))
@@ -57,7 +59,7 @@ part-read-row-start c = search needs
 
 part-read-row-end : tie.Need-part-read-row-end Inv-loop μ-loop
 part-read-row-end c = let l = c .before .before .loop in
-    let q = c .before .before .before .pre in
+    let q = c .before .before .before .held .ensures in
     let w : length (l .words) ≡ 8 = ap length (l .inv .1) ∙ length-firstSteps latter (l .j) zeros _ in
     omega arith
 
@@ -69,7 +71,7 @@ part-read-row-start-2 c = search needs
 
 part-read-row-end-2 : tie.Need-part-read-row-end-2 Inv-loop μ-loop
 part-read-row-end-2 c = let l = c .before .before .before .before .loop in
-    let q = c .before .before .before .before .before .pre in
+    let q = c .before .before .before .before .before .held .ensures in
     let w : length (l .counts) ≡ 8 = ap length (l .inv .2) ∙ length-firstSteps latter (l .j) zeros _ in
     omega arith
 
@@ -77,10 +79,11 @@ read-row-requires : tie.Need-read-row-requires Inv-loop μ-loop
 read-row-requires c κs = search needs
 
 returns : tie.Need-returns Inv-loop μ-loop
-returns c = let a = c .before .before .before .before .before .before .before .args in
+returns c = let a = c .before .before .before .before .before .before .before .before .args in
     let l = c .before .before .before .before .before .before .loop in
+    let end = c .before .before .before .before .before .before .before .held in
     let w : length (a .t1) ≡ 8 = search needs in
-    let z : a .m - 0 ≡ a .m = omega arith in
+    let z : end .result - 0 ≡ min (a .m) 8 = omega (arith, end .ensures) in
     let y : l .j ≡ 8 = omega arith in
     c .read-row .ensures ∙ rw (z, l .inv .1, l .inv .2, y, copied-all (λ (x : Minislot). x .word) refl (a .t1) w (a .m), copied-all (λ (x : Minislot). x .count) refl (a .t1) w (a .m))
 
@@ -90,6 +93,7 @@ read-wire-row-spec =
     (tie.spec
     Inv-loop
     μ-loop
+    held-requires
     loop-holds
     mul-x
     array-copy-out-x

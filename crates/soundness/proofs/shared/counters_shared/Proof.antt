@@ -12,7 +12,7 @@ use Rattle.rules.specs.declared.Station.{Station}
 use Rattle.listlaws.specs.Lists.{each}
 use Rattle.rules.specs.Soundness.{sameCounters, tableCounters, countersShared}
 use Rattle.listlaws.proofs.Loops.{first-rest, first-none, each-next, each-stop}
-use Rattle.soundness.proofs.Comparing.{blank, first-counters}
+use Rattle.soundness.proofs.Comparing.{blank}
 use Rattle.soundness.proofs.shared.counters_shared.Statement.{statement}
 use Rattle.soundness.proofs.shared.counters_shared.Tie as tie
 
@@ -25,14 +25,11 @@ Inv-loop count stations shared i₀ i = (i ≤ count) × (tableCounters (take co
 abbrev μ-loop : tie.MeasureT-loop
 μ-loop count stations shared i₀ i = count - i
 
-array-copy-out-first : tie.Need-array-copy-out-first Inv-loop μ-loop
-array-copy-out-first c = search needs
+table-counters-requires : tie.Need-table-counters-requires Inv-loop μ-loop
+table-counters-requires c κs = search needs
 
 loop-holds : tie.Need-loop-holds Inv-loop μ-loop
-loop-holds c =
-    let a = c .before .before .args in
-    let w : length (a .t1) ≡ 64 = search needs in
-    (omega arith, first-counters (a .t1) (a .count) blank (omega arith) (omega arith), refl)
+loop-holds c = (omega arith, sym (c .table-counters .ensures), refl)
 
 mul-s : tie.Need-mul-s Inv-loop μ-loop
 mul-s c = search needs
@@ -47,7 +44,7 @@ returns : tie.Need-returns Inv-loop μ-loop
 unfolding countersShared
 returns c =
     let l = c .before .before .before .before .before .loop in
-    let a = c .before .before .before .before .before .before .before .before .args in
+    let a = c .before .before .before .before .before .before .before .args in
     let w : length (a .t1) ≡ 64 = search needs in
     let e = first-rest (a .t1) (a .count) (omega arith) (l .i) blank (omega arith) in
     sym (ap (λ (k : Counters). each (alike k) (take (a .count) (a .t1))) (l .inv .1) ∙ sym (l .inv .2) ∙ each-stop e (alike _) (sym (c .before .same-counters .ensures) ∙ not-true _ (c .if1 .taken)))
@@ -61,7 +58,7 @@ loop-less c = search needs
 loop-again : tie.Need-loop-again Inv-loop μ-loop
 loop-again c =
     let l = c .before .before .before .before .before .loop in
-    let a = c .before .before .before .before .before .before .before .before .args in
+    let a = c .before .before .before .before .before .before .before .args in
     let w : length (a .t1) ≡ 64 = search needs in
     let e = first-rest (a .t1) (a .count) (omega arith) (l .i) blank (omega arith) in (
       omega arith,
@@ -73,7 +70,7 @@ returns-2 : tie.Need-returns-2 Inv-loop μ-loop
 unfolding countersShared
 returns-2 c =
     let l = c .before .loop in
-    let a = c .before .before .before .before .args in
+    let a = c .before .before .before .args in
     let w : length (a .t1) ≡ 64 = search needs in
     (rw (first-none (a .t1) (a .count) (omega arith) (l .i) (omega arith)) at (l .inv .2)) ∙ sym (ap (λ (k : Counters). each (alike k) (take (a .count) (a .t1))) (l .inv .1))
 
@@ -83,7 +80,7 @@ counters-shared-spec =
     (tie.spec
     Inv-loop
     μ-loop
-    array-copy-out-first
+    table-counters-requires
     loop-holds
     mul-s
     array-copy-out-s

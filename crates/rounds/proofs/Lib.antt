@@ -1,0 +1,5 @@
+pub mod RoundSteps
+pub mod Lines
+pub mod RoundLoop
+pub mod RoundMoves
+pub mod InReads

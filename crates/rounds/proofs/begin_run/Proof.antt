@@ -1,0 +1,21 @@
+-- `begin_run` meets its contract. Assumes nothing.
+use borrow.Author.Needs.{needs}
+use Rattle.rounds.proofs.begin_run.Statement.{statement}
+use Rattle.rounds.proofs.begin_run.Tie as tie
+
+put-header-requires : tie.Need-put-header-requires
+put-header-requires c κs = search needs
+
+begin-requires : tie.Need-begin-requires
+begin-requires c κs = search needs
+
+same-length : tie.Need-same-length
+same-length c = search needs
+
+returns : tie.Need-returns
+returns c =
+    let v = c .before .before .before .put-header .ensures in
+    (v .0, rw (c .begin .ensures, v .1))
+
+pub begin-run-spec : {M : Type 1} → statement M
+begin-run-spec = tie.close (tie.spec put-header-requires begin-requires same-length returns)
