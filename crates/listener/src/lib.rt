@@ -62,13 +62,14 @@ fn listen_row(c: Counters, row: RowReading) -> Listened
 {
     let one = step_one(c, row);
     let reached = one.after;
-    if one.fits {
-        return Listened {
-            answer: ListenAnswer::Went(turn(reached)),
-            counters: fall(c, reached),
-        };
+    let fits = one.fits;
+    if !fits {
+        return refused(c, 7);
     }
-    refused(c, 7)
+    Listened {
+        answer: ListenAnswer::Went(turn(reached)),
+        counters: fall(c, reached),
+    }
 }
 
 // Listens to a row. 18: the record is outside its limits. 6: the row has not m minislots. Then 1 to 4 for the first bad minislot. 7: a
