@@ -1,74 +1,64 @@
 // Tables of 64 stations of one kind each.
-use local_channel::LocalChannel;
+//
+// 0: all free. 1: all urgent. 2: all long, stretches of 255 slots one after another. 3: all resolving, 32 places of two. 4: all asked in
+// one minislot. 5: all asked, one in each minislot of eight groups. 6: full counters, any condition.
+use minislot::Minislot;
 use rules::Condition;
 use rules::Counters;
 use rules::Station;
+use rules::WireRow;
 use runs_arrivals::draw;
-use runs_tables::blank;
-use runs_tables::with_minislot;
-use runs_tables::with_station;
+ghost use Prim.Native.Nat.{_≤_};
 
-fn counters(groups: u8, urgent: u16, long: u16, resolution: u16) -> Counters {
-    let mut queues = [0u16; 8];
-    queues[0] = resolution;
+pub(crate) struct Table {
+    pub stations: [Station; 64],
+    pub wire: [WireRow; 8],
+}
+
+// ---- the counters
+
+// RQ of group g, from 0.
+fn queue(g: usize, kind: u64, groups: u8) -> u16 {
+    if kind == 6 {
+        return if g < groups as usize { 4095 } else { 0 };
+    }
+    if kind == 3 {
+        return if g == 0 { 32 } else { 0 };
+    }
+    0
+}
+
+fn counters_of(kind: u64, groups: u8) -> Counters {
+    let mut resolution = [0u16; 8];
+    let mut g: usize = 0;
+    while g < 8 {
+        resolution[g] = queue(g, kind, groups);
+        g += 1;
+    }
+    let urgent = match kind {
+        1 => 64,
+        6 => 4095,
+        _ => 0,
+    };
+    let long = match kind {
+        2 => 16320,
+        6 => 65535,
+        _ => 0,
+    };
     Counters {
         minislots: 8,
         groups,
         next: 1,
         urgent,
         long,
-        resolution: queues,
+        resolution,
         opened: [true; 8],
     }
 }
 
-pub(crate) fn first_64(stations: [Station; 65]) -> [Station; 64] {
-    let blank = stations[0];
-    let mut table = [blank; 64];
-    let mut k: usize = 0;
-    while k < 64 {
-        table[k] = stations[k];
-        k += 1;
-    }
-    table
-}
-
 // ---- the condition of station k
 
-fn urgent_at(k: u16) -> Condition {
-    Condition::Urgent { place: k % 64 + 1 }
-}
-
-// All stretches of 255 slots, one after another.
-fn long_at(k: u16) -> Condition {
-    Condition::Long {
-        first: k % 64 * 255 + 1,
-        left: 255,
-        total: 255,
-    }
-}
-
-fn resolving_at(k: u16) -> Condition {
-    Condition::Resolving {
-        group: 1,
-        place: k % 64 / 2 + 1,
-        total: 1,
-    }
-}
-
-fn asked_in(group: u8, minislot: u8) -> Condition {
-    Condition::Asked {
-        group,
-        minislot,
-        total: 255,
-    }
-}
-
-fn asked_at(k: u16) -> Condition {
-    asked_in((k % 64 / 8) as u8 + 1, (k % 8) as u8 + 1)
-}
-
-// A condition by the arithmetic rule, within the limits of full queues.
+// By the arithmetic rule, within the limits of full queues.
 fn drawn(k: u16) -> Condition {
     let kind = draw(1, k as u64, 1, 5);
     let place = (draw(1, k as u64, 2, 4095) % 4095 + 1) as u16;
@@ -85,103 +75,101 @@ fn drawn(k: u16) -> Condition {
             place,
             total: 1,
         },
-        3 => asked_in(group, group),
+        3 => Condition::Asked {
+            group,
+            minislot: group,
+            total: 255,
+        },
         _ => Condition::Free,
     }
 }
 
 fn condition_of(kind: u64, k: u16) -> Condition {
+    let i = k % 64;
     match kind {
         0 => Condition::Free,
-        1 => urgent_at(k),
-        2 => long_at(k),
-        3 => resolving_at(k),
-        4 => asked_in(1, 1),
-        5 => asked_at(k),
+        1 => Condition::Urgent { place: i + 1 },
+        2 => Condition::Long {
+            first: i * 255 + 1,
+            left: 255,
+            total: 255,
+        },
+        3 => Condition::Resolving {
+            group: 1,
+            place: i / 2 + 1,
+            total: 1,
+        },
+        4 => Condition::Asked {
+            group: 1,
+            minislot: 1,
+            total: 255,
+        },
+        5 => Condition::Asked {
+            group: (i / 8) as u8 + 1,
+            minislot: (i % 8) as u8 + 1,
+            total: 255,
+        },
         _ => drawn(k),
     }
 }
 
-fn counters_of(kind: u64, groups: u8) -> Counters {
-    match kind {
-        1 => counters(groups, 64, 0, 0),
-        2 => counters(groups, 0, 16320, 0),
-        3 => counters(groups, 0, 0, 32),
-        6 => full(groups),
-        _ => counters(groups, 0, 0, 0),
-    }
+// ---- the tables
+
+// How many stations' words are on the wire.
+fn heard(kind: u64) -> usize
+    ensures { λ r. ⌜ r ≤ 64 ⌝ }
+{
+    if kind < 4 { 0 } else { 64 }
 }
 
-// RQ at its limit, for one of the groups.
-fn full_queue(g: usize, groups: u8) -> u16 {
-    if g < groups as usize { 4095 } else { 0 }
+// The minislot of station k: one of its own, or the first.
+fn spread(kind: u64, k: usize) -> usize
+    ensures { λ r. ⌜ r ≤ k ⌝ }
+{
+    if kind == 5 { k } else { 0 }
 }
 
-// Every queue at its limit.
-fn full(groups: u8) -> Counters {
-    let mut queues = [0u16; 8];
-    let mut g: usize = 0;
-    while g < 8 {
-        queues[g] = full_queue(g, groups);
-        g += 1;
-    }
-    Counters {
-        minislots: 8,
-        groups,
-        next: 1,
-        urgent: 4095,
-        long: 65535,
-        resolution: queues,
-        opened: [true; 8],
-    }
-}
-
-// ---- the wire that belongs to a table
-
-// One more word in minislot j of group g, both from 0.
-fn joined(c: LocalChannel, g: usize, j: usize, word: u16) -> LocalChannel {
-    let wire = c.wire;
-    if g < 8 {
-        let row = wire[g];
-        let minislots = row.minislots;
-        if j < 8 {
-            let before = minislots[j];
-            return with_minislot(c, g, j, before.word | word, 255);
-        }
-    }
-    c
-}
-
-fn asking(c: LocalChannel, kind: u64, words: [u16; 924]) -> LocalChannel {
-    let mut c = c;
+// The wire that belongs to a table: all words in one minislot, or each in one of its own.
+fn wire_of(kind: u64, words: [u16; 924]) -> [WireRow; 8] {
+    let silent = WireRow {
+        minislots: [Minislot { word: 0, count: 0 }; 8],
+    };
+    let mut wire = [silent; 8];
+    let end = heard(kind);
     let mut k: usize = 0;
-    while k < 64 {
-        let word = words[k * 14];
-        let spread = if kind == 5 { k } else { 0 };
-        c = joined(c, spread / 8, spread % 8, word);
+    while k < end {
+        let at = spread(kind, k);
+        let row = wire[at / 8];
+        let mut minislots = row.minislots;
+        let before = minislots[at % 8];
+        let word = before.word | words[k * 14];
+        minislots[at % 8] = Minislot { word, count: 255 };
+        wire[at / 8] = WireRow { minislots };
         k += 1;
     }
-    c
+    wire
 }
 
-// 0: all free. 1: all urgent. 2: all long. 3: all resolving, 32 places of two. 4: all asked in one minislot. 5: all asked, one in each
-// minislot of eight groups. 6: full counters, any condition.
-pub(crate) fn table_of(kind: u64, groups: u8) -> LocalChannel {
-    let shared = counters_of(kind, groups);
-    let mut c = blank(64);
+pub(crate) fn table_of(kind: u64, groups: u8) -> Table {
+    let counters = counters_of(kind, groups);
+    let first = Station {
+        counters,
+        index: 0,
+        condition: condition_of(kind, 0),
+    };
+    let mut stations = [first; 64];
     let mut k: usize = 0;
     while k < 64 {
         let i = (k % 64) as u16;
-        let s = Station {
-            counters: shared,
+        stations[k] = Station {
+            counters,
             index: i * 14,
             condition: condition_of(kind, i),
         };
-        c = with_station(c, k, s);
         k += 1;
     }
-    if kind < 4 {
-        return c;
+    Table {
+        stations,
+        wire: wire_of(kind, pattern::words()),
     }
-    asking(c, kind, pattern::words())
 }

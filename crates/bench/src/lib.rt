@@ -2,13 +2,11 @@
 // a difference of two runs; and the test of a sound table on tables of each kind.
 mod kinds;
 
-use kinds::first_64;
 use kinds::table_of;
 use local_channel::LocalChannel;
 use minislot::Feedback;
 use minislot::Reading;
 use minislot::read;
-use pattern::index_of;
 use rules::Answer;
 use rules::Station;
 use rules::WireRow;
@@ -16,7 +14,10 @@ use runs_arrivals::ARRIVES;
 use runs_arrivals::draw;
 use runs_arrivals::picks_of;
 use runs_arrivals::size;
-use runs_tables::blank;
+use runs_tables::index_of;
+use runs_tables::offered;
+use runs_tables::slotted;
+use runs_tables::started;
 use soundness::sound;
 
 // A sum that can't pass the type's limit.
@@ -40,18 +41,6 @@ fn digest_of(answer: Answer) -> u64 {
 
 // ---- a channel under load
 
-// 64 stations, three minislots, one group.
-fn started() -> LocalChannel {
-    let mut indexes = [0u16; 64];
-    let mut k: usize = 0;
-    while k < 64 {
-        indexes[k] = (k % 64) as u16 * 14;
-        k += 1;
-    }
-    let r = local_channel::start(blank(64), 3, 1, &indexes);
-    r.channel
-}
-
 // One station in eight is offered a message; most are not free.
 fn arrived(c: LocalChannel, s: u64) -> LocalChannel {
     let mut c = c;
@@ -59,7 +48,7 @@ fn arrived(c: LocalChannel, s: u64) -> LocalChannel {
     while k < 64 {
         let station = k as u64;
         if draw(s, station, ARRIVES, 8) == 0 {
-            let r = local_channel::offer(c, (k % 64) as u16 * 14, size(s, station));
+            let r = offered(c, index_of(k, 0), size(s, station));
             c = r.channel;
         }
         k += 1;
@@ -73,7 +62,7 @@ fn slots_again(c: LocalChannel, times: u64) -> u64 {
     let mut i: u64 = 0;
     while i < times {
         let picks = picks_of(i, 3);
-        let r = local_channel::slot(c, &picks[0..64]);
+        let r = slotted(c, &picks[0..64]);
         let answer = r.answer;
         d = plus(d, digest_of(answer));
         i += 1;
@@ -106,6 +95,16 @@ fn checks_again(stations: [Station; 64], wire: [WireRow; 8], times: u64) -> u64 
     d
 }
 
+fn first_64(stations: [Station; 65]) -> [Station; 64] {
+    let mut table = [stations[64]; 64];
+    let mut k: usize = 0;
+    while k < 64 {
+        table[k] = stations[k];
+        k += 1;
+    }
+    table
+}
+
 fn all_again(c: LocalChannel, slots: u64, picks: u64, checks: u64) -> u64 {
     let stations = c.stations;
     let wire = c.wire;
@@ -117,14 +116,14 @@ fn all_again(c: LocalChannel, slots: u64, picks: u64, checks: u64) -> u64 {
 // One round of a channel under load: arrivals, calls again, a slot.
 fn round(c: LocalChannel, s: u64) -> LocalChannel {
     let picks = picks_of(s, 3);
-    let r = local_channel::slot(arrived(c, s), &picks[0..64]);
+    let r = slotted(arrived(c, s), &picks[0..64]);
     r.channel
 }
 
-// So many rounds, with so many slots, picks and tests again in each.
+// So many rounds of a channel of 64 stations, three minislots and one group, with so many slots, picks and tests again in each.
 #[no_mangle]
 pub extern "C" fn bench_load(rounds: u64, slots: u64, picks: u64, checks: u64) -> u64 {
-    let mut c = started();
+    let mut c = started(64, 3, 1, 0);
     let mut d: u64 = 0;
     let mut s: u64 = 0;
     while s < rounds {
@@ -138,11 +137,10 @@ pub extern "C" fn bench_load(rounds: u64, slots: u64, picks: u64, checks: u64) -
 // The test of a table of one kind, so many times.
 #[no_mangle]
 pub extern "C" fn bench_check(kind: u64, groups: u8, times: u64) -> u64 {
-    let c = table_of(kind, groups);
-    let stations = c.stations;
-    let wire = c.wire;
-    let table = first_64(stations);
-    checks_again(table, wire, times)
+    let table = table_of(kind, groups);
+    let stations = table.stations;
+    let wire = table.wire;
+    checks_again(stations, wire, times)
 }
 
 // What is read of a minislot, as a number.
@@ -176,7 +174,7 @@ pub extern "C" fn bench_index(times: u64) -> u64 {
     let mut d: u64 = 0;
     let mut i: u64 = 0;
     while i < times {
-        d = plus(d, index_of((i % 4096) as u16) as u64);
+        d = plus(d, indexing::index_of((i % 4096) as u16) as u64);
         i += 1;
     }
     d

@@ -14,9 +14,9 @@ use Rattle.listlaws.proofs.Steps.{length-allSteps}
 use Rattle.rules.specs.declared.Station.{Station}
 use Rattle.rules.specs.declared.WireRow.{WireRow}
 use Rattle.rules.specs.Limits.{between}
-use Rattle.rules.specs.Soundness.{soundTable}
+use Rattle.channel_rules.specs.Soundness.{soundTable}
 use Rattle.rules.specs.StationCalls.{noStation}
-use Rattle.rules.specs.ChannelCalls.{hasStations}
+use Rattle.channel_rules.specs.ChannelCalls.{hasStations}
 use Rattle.rules.proofs.LimitLaws.{between-bounds}
 use Rattle.table.specs.Loading.{absent, loadOf}
 use Rattle.table.proofs.Loading.{load-count, table-loaded}

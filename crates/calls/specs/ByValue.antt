@@ -5,7 +5,7 @@ use lib.ListN.{take, replicate}
 use Rattle.rules.specs.declared.Station.{Station}
 use Rattle.rules.specs.declared.WireRow.{WireRow}
 use Rattle.rules.specs.StationCalls.{noStation}
-use Rattle.rules.specs.ChannelCalls.{Channel}
+use Rattle.channel_rules.specs.ChannelCalls.{Channel}
 
 abbrev pub channelOf : List Station → List WireRow → Channel
 channelOf stations wire = record { stations = stations; wire = wire }

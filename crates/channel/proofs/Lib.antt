@@ -1,5 +1,4 @@
--- The walks of the calls: the data and the functions that they use; and demand 3 of every run of the calls.
+-- The walks of the calls: the data and the functions that they use.
 pub mod Values
 mod Uses
 mod Loans
-pub mod Chain

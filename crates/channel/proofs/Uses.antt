@@ -23,7 +23,7 @@ use Rattle.rules.specs.declared.Station.{Station}
 use Rattle.rules.specs.declared.WireRow.{WireRow}
 use Rattle.rules.specs.declared.Sent.{Sent}
 use Rattle.calls.specs.declared.Judged.{Judged}
-use Rattle.sending.specs.Replying.{replyOf, Answerable}
+use Rattle.replying.specs.Replying.{replyOf, Answerable}
 use Rattle.table.specs.declared.Loaded.{Loaded}
 use Rattle.table.proofs.DataKinds.{vals, of-uint}
 use Rattle.table.proofs.Returned.{owned-of, value-returned, Use}
@@ -31,7 +31,7 @@ use Rattle.table.proofs.Values.{station, loaded}
 use Rattle.offers.specs.Offering.{offeredOf}
 use Rattle.channel.proofs.Values.{wire, sent, called, offered, judged}
 use Rattle.offers.proofs.place_offer as offer′
-use Rattle.sending.proofs.reply as reply′
+use Rattle.replying.proofs.reply as reply′
 
 module _ {M : Type 1} (𝓤 : URA M) (H : Heap 𝓤) (A : Atoms 𝓤) (mem : Memory → SProp 𝓤) (run : Routine → Fun 𝓤) where
   -- ---- place_offer

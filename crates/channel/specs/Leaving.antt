@@ -2,7 +2,7 @@
 -- Assumes nothing.
 use mathlib.Core.List.{List}
 use Rattle.rules.specs.declared.Station.{Station}
-use Rattle.rules.specs.ChannelCalls.{ChannelResult, ChannelStarted}
+use Rattle.channel_rules.specs.ChannelCalls.{ChannelResult, ChannelStarted}
 use Rattle.calls.specs.declared.CallReply.{CallReply}
 use Rattle.calls.specs.declared.StartReply.{StartReply}
 use Rattle.calls.specs.ByValue.{channelOf}

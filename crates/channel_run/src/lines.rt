@@ -1,77 +1,39 @@
-// Tables and answers as lines.
+// Tables as lines.
 use local_channel::LocalChannel;
-use rules::Answer;
 use rules::WireRow;
 use runs_records::record_line;
-use runs_records::taken_line;
-use runs_records::turn_text;
+use runs_records::wire_numbers;
 use runs_tables::least;
-use runs_text::field;
-use runs_text::field8;
-use runs_text::field16;
-use runs_text::refused_line;
+use runs_text::fields;
+use runs_text::form;
 use runs_text::text;
 
-pub(crate) fn call_line(answer: Answer) {
-    match answer {
-        Answer::Refused(number) => refused_line(number),
-        Answer::Taken(total) => taken_line(total),
-        Answer::Went {
-            turn,
-            senders,
-            index,
-            segment,
-            delivered,
-        } => {
-            text(b"went");
-            turn_text(turn);
-            field8(senders);
-            field16(index);
-            field8(segment);
-            field8(delivered);
-            text(b"\n");
+// Whether a number is not 0.
+fn any(numbers: &[u64]) -> bool {
+    let mut k: usize = 0;
+    while k < numbers.len() {
+        if numbers[k] != 0 {
+            return true;
         }
+        k += 1;
     }
+    false
 }
 
-fn is_silent(row: WireRow) -> bool {
-    let minislots = row.minislots;
-    let mut silent = true;
-    let mut j: usize = 0;
-    while j < 8 {
-        let x = minislots[j];
-        if x.word != 0 {
-            silent = false;
-        }
-        if x.count != 0 {
-            silent = false;
-        }
-        j += 1;
+fn row_line(g: usize, row: &[u64]) {
+    if any(row) {
+        let group = [g as u64];
+        form(b"row,#", &group);
+        fields(row);
+        text(b"\n");
     }
-    silent
-}
-
-fn row_line(g: usize, row: WireRow) {
-    let minislots = row.minislots;
-    text(b"row");
-    field(g as u64);
-    let mut j: usize = 0;
-    while j < 8 {
-        let x = minislots[j];
-        field16(x.word);
-        field8(x.count);
-        j += 1;
-    }
-    text(b"\n");
 }
 
 fn wire_lines(wire: [WireRow; 8]) {
+    let all = wire_numbers(wire);
     let mut g: usize = 0;
     while g < 8 {
-        let row = wire[g];
-        if !is_silent(row) {
-            row_line(g + 1, row);
-        }
+        row_line(g + 1, &all[16 * g..16 * g + 16]);
         g += 1;
     }
 }
@@ -80,9 +42,8 @@ pub(crate) fn table_lines(c: LocalChannel) {
     let stations = c.stations;
     let wire = c.wire;
     let end = least(c.count, 65);
-    text(b"table");
-    field(c.count as u64);
-    text(b"\n");
+    let count = [c.count as u64];
+    form(b"table,#\n", &count);
     let mut k: usize = 0;
     while k < end {
         let s = stations[k];

@@ -1,5 +1,116 @@
-// What is checked of a station's condition and record, for the station and the channel: its limits, what it must hear of itself, and
-// whether it can take a message. Each function is equal to its rule of crate `rules`.
-pub mod hearing;
-pub mod limits;
-pub mod offering;
+// The limits of a station's record, for the station and the channel. Each test is equal to its rule of crate `rules`.
+use counters::resolution_of;
+use rules::Condition;
+use rules::Counters;
+use rules::Station;
+ghost use mathlib.Core.Path.{_≡_};
+ghost use mathlib.Core.Bool.{_&&_};
+ghost use Prim.Native.Nat.{_+_};
+ghost use lib.Dec.{leb};
+ghost use Rattle.rules.specs.Limits.{between};
+ghost use Rattle.rules.specs.StationCalls.{noStation, isIndex};
+ghost use Rattle.rules.specs.StationLimits.{stationWithin, conditionWithin, isTotal};
+
+// The greatest index of a station (paper 01, "The box").
+const INDEX_LIMIT: u16 = 923;
+
+// Whether a number is a station's index.
+pub fn is_index(i: u16) -> bool
+    ensures { λ r. ⌜ r ≡ isIndex i ⌝ }
+{
+    i <= INDEX_LIMIT
+}
+
+// What stands for a station where a start is refused: all zero, outside the limits.
+pub fn no_station() -> Station
+    ensures { λ r. ⌜ r ≡ noStation ⌝ }
+{
+    Station {
+        counters: counters::none(),
+        index: 0,
+        condition: Condition::Free,
+    }
+}
+
+// Whether a station's record is within its limits.
+pub fn within(s: Station) -> bool
+    ensures { λ r. ⌜ r ≡ stationWithin s ⌝ }
+{
+    let c = s.counters;
+    let k = s.condition;
+    if counters::within(c) {
+        if is_index(s.index) {
+            return condition_within(c, k);
+        }
+        return false;
+    }
+    false
+}
+
+// Whether a condition is within its limits, by the counters that its station keeps.
+fn condition_within(c: Counters, k: Condition) -> bool
+    ensures { λ r. ⌜ r ≡ conditionWithin c k ⌝ }
+{
+    match k {
+        Condition::Free => true,
+        Condition::Fresh { total } => 1 <= total,
+        Condition::Asked {
+            group,
+            minislot,
+            total,
+        } => grouped_within(c.groups, group, c.minislots as u16, minislot as u16, total),
+        Condition::Resolving {
+            group,
+            place,
+            total,
+        } => grouped_within(c.groups, group, resolution_of(c, group), place, total),
+        Condition::Urgent { place } => urgent_within(c.urgent, place),
+        Condition::Long { first, left, total } => long_within(c.long, first, left, total),
+    }
+}
+
+// A message of a group: the minislot that it asked in, or its place in the group's resolution queue, is one of so many.
+fn grouped_within(groups: u8, group: u8, places: u16, place: u16, total: u8) -> bool
+    ensures { λ r. ⌜ r ≡ between 1 group groups && between 1 place places && isTotal total ⌝ }
+{
+    if group < 1 {
+        return false;
+    }
+    if groups < group {
+        return false;
+    }
+    if place < 1 {
+        return false;
+    }
+    if places < place {
+        return false;
+    }
+    1 <= total
+}
+
+fn urgent_within(places: u16, place: u16) -> bool
+    ensures { λ r. ⌜ r ≡ between 1 place places ⌝ }
+{
+    if place < 1 {
+        return false;
+    }
+    place <= places
+}
+
+fn long_within(places: u16, first: u16, left: u8, total: u8) -> bool
+    ensures { λ r. ⌜ r ≡ between 2 total 255 && between 1 left total && leb 1 first && leb (first + left) (places + 1) ⌝ }
+{
+    if total < 2 {
+        return false;
+    }
+    if left < 1 {
+        return false;
+    }
+    if total < left {
+        return false;
+    }
+    if first < 1 {
+        return false;
+    }
+    (first as u32) + (left as u32) <= (places as u32) + 1
+}

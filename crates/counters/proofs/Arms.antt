@@ -1,5 +1,4 @@
--- The tests of the limits, each way, and what a turn does to lengths within theirs.
--- Assumes nothing.
+-- The tests of the limits of a group's RQ and mark, each way. Assumes nothing.
 use mathlib.Core.Path.{_≡_}
 use mathlib.Core.Bool.{Bool, true, false}
 use mathlib.Core.Logic.{_⊎_, inl, inr, ⊎-elim}
@@ -9,9 +8,6 @@ use native.Mathlib.Numerals.{add-one}
 use native.Mathlib.Omega.{arith}
 use borrow.Author.Tests.{lt-ltb, le-ltb, le-leb, lt-leb, eq-eqb, ne-eqb}
 use Rattle.rules.specs.Limits.{resolutionWithin, openedWithin}
-use Rattle.rules.specs.declared.Turn.{Turn}
-use Rattle.rules.specs.declared.Turn.the-variants.{Urgent as UrgentTurn, Long as LongTurn, Resolve as ResolveTurn, Open as OpenTurn}
-use Rattle.rules.specs.Falling.{urgentFalls, longFalls}
 
 -- ---- a group's RQ: one of the n groups, or above them
 
@@ -34,20 +30,6 @@ opened-any n k b h = rw (lt-ltb k n h)
 
 pub opened-above : (n k : ℕ) (b c : Bool) → n ≤ k → b ≡ c → openedWithin n k b ≡ c
 opened-above n k b c h e = rw (le-ltb k n h) e
-
--- ---- lengths fall
-
-pub urgent-falls-most : (t : Turn) (h : ℕ) → urgentFalls t h ≤ h
-urgent-falls-most UrgentTurn h = omega arith
-urgent-falls-most LongTurn h = omega arith
-urgent-falls-most ResolveTurn h = omega arith
-urgent-falls-most OpenTurn h = omega arith
-
-pub long-falls-most : (t : Turn) (n : ℕ) → longFalls t n ≤ n
-long-falls-most UrgentTurn n = omega arith
-long-falls-most LongTurn n = omega arith
-long-falls-most ResolveTurn n = omega arith
-long-falls-most OpenTurn n = omega arith
 
 -- ---- order of two numbers, decided
 

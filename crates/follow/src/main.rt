@@ -1,17 +1,17 @@
 // Follows a recording: reads `m,n` and then rows of minislots, and prints the listener's counters after each slot.
 // It reads standard input, or the file that its first argument names, or, where that is the word `example`, a recording of its own.
-use follower::begin;
+use buffers::count_first;
+use following::begin;
 use libc::STDIN_FILENO;
 use libc::STDOUT_FILENO;
 use lines::put_header;
-use rounds::Run;
-use rounds::Wants;
-use rounds::after_read;
-use rounds::after_write;
-use rounds::begin_run;
 use rounds::follow_round;
-use rounds::read_end;
-use stream::count_first;
+use standing::Run;
+use standing::Wants;
+use standing::after_read;
+use standing::after_write;
+use standing::begin_run;
+use standing::read_end;
 use stream::follow_buffered;
 
 // A run after what it needed was done, and whether it goes on.

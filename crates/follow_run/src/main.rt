@@ -1,12 +1,12 @@
 // Runs the recordings of its folder whose names stand on standard input, a line each, through the functions of `follow`, and prints for
 // each its name, what is printed for it, and an empty line. independent/follow.py makes the recordings and, by an implementation of its
 // own, what this program must write.
-use follower::begin;
+use buffers::count_first;
+use following::begin;
 use libc::STDIN_FILENO;
 use lines::put_header;
 use runs_cases::line_end;
 use runs_text::text;
-use stream::count_first;
 use stream::follow_buffered;
 
 // Writes the bytes before place at.

@@ -11,10 +11,11 @@ use borrow.Author.Tests.{eqb-true, ltb-true}
 use lib.Dec.{ltb, eqb}
 use lib.ListN.{length, take, drop}
 use lib.Seq.{getD-set-same}
-use Rattle.recording.specs.Cutting.{cutOf}
-use Rattle.recording.specs.declared.records.Cut.{Cut}
-use Rattle.recording.specs.declared.records.Cut.the-variants as cut
-use Rattle.lines.proofs.LineLaws.{line-within, refusal-within}
+use Rattle.records.specs.Cutting.{cutOf}
+use Rattle.records.specs.declared.Cut.{Cut}
+use Rattle.records.specs.declared.Cut.the-variants as cut
+use Rattle.lines.proofs.LineLaws.{line-within}
+use Rattle.refusals.proofs.RefusalLaws.{refusal-within}
 use Rattle.rules.specs.declared.Turn.{Turn}
 use Rattle.rules.specs.declared.Turn.the-variants as turn
 use Rattle.rules.specs.Refusing.{byNumber}
@@ -22,13 +23,13 @@ use Rattle.rules.specs.Turns.{turnOf}
 use Rattle.rules.specs.Falling.{urgentFalls, longFalls, fallen}
 use Rattle.rules.specs.Starting.{inRanges, startNumberOf}
 use Rattle.rules.proofs.LimitLaws.{within-limits, arrays-lengths, none-passes}
-use Rattle.follower.specs.declared.Follower.{Follower}
-use Rattle.follower.specs.declared.Step.{Step}
-use Rattle.follower.specs.declared.Progress.the-variants.{Done}
-use Rattle.follower.specs.RecordNumbers.{isFirst, firstMinislots, firstGroups, firstNumberOf, rowNumberOf, recordNumberOf}
-use Rattle.follower.specs.Following.{bytesOf, placeFollowing, refusedStep, firstWent, rowPlaces, rowWent, followRecord}
-use Rattle.follower.specs.Advancing.{stepAdvance, stayAdvance, advanceBy, advanceOf}
-use Rattle.follower.proofs.RowReads.{unless-low, row-low, row-within}
+use Rattle.following.specs.declared.Follower.{Follower}
+use Rattle.following.specs.declared.Step.{Step}
+use Rattle.advances.specs.declared.Progress.the-variants.{Done}
+use Rattle.following.specs.RecordNumbers.{isFirst, firstMinislots, firstGroups, firstNumberOf, rowNumberOf, recordNumberOf}
+use Rattle.following.specs.Following.{bytesOf, placeFollowing, refusedStep, firstWent, rowPlaces, rowWent, followRecord}
+use Rattle.advances.specs.Advancing.{stepAdvance, stayAdvance, advanceBy, advanceOf}
+use Rattle.following.proofs.RowNumbers.{unless-low, row-low, row-within}
 
 -- the numbers of the first record's list are at most 19
 first-low : (bytes : List ℕ) → firstNumberOf bytes ≤ 19

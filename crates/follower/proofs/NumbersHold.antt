@@ -6,19 +6,20 @@ use mathlib.Core.List.{List, []}
 use Prim.Native.Nat.{ℕ, _-_}
 use lib.Dec.{ltb}
 use lib.ListN.{take, drop}
-use Rattle.recording.specs.Cutting.{cutOf}
-use Rattle.recording.specs.declared.records.Cut.{Cut}
-use Rattle.recording.specs.declared.records.Cut.the-variants as cut
+use Rattle.records.specs.Cutting.{cutOf}
+use Rattle.records.specs.declared.Cut.{Cut}
+use Rattle.records.specs.declared.Cut.the-variants as cut
 use Rattle.rules.specs.Numbers.{Told}
 use Rattle.rules.specs.Answered.{told}
 use Rattle.rules.specs.Refusing.{byNumber, unless}
 use Rattle.rules.proofs.Refusals.{by-ap}
-use Rattle.follower.specs.declared.Follower.{Follower}
-use Rattle.follower.specs.declared.Step.{Step}
-use Rattle.follower.specs.declared.Progress.the-variants.{Done}
-use Rattle.follower.specs.RecordNumbers.{recordNumberOf, nextNumberBy, nextNumberOf}
-use Rattle.follower.specs.Following.{refusedStep, rowWent, firstWent, followRecord}
-use Rattle.follower.specs.Advancing.{progressOf, stepAdvance, stayAdvance, advanceBy, advanceOf}
+use Rattle.following.specs.declared.Follower.{Follower}
+use Rattle.following.specs.declared.Step.{Step}
+use Rattle.advances.specs.declared.Progress.the-variants.{Done}
+use Rattle.following.specs.RecordNumbers.{recordNumberOf}
+use Rattle.follower.specs.Answered.{nextNumberBy, nextNumberOf}
+use Rattle.following.specs.Following.{refusedStep, rowWent, firstWent, followRecord}
+use Rattle.advances.specs.Advancing.{progressOf, stepAdvance, stayAdvance, advanceBy, advanceOf}
 use Rattle.follower.specs.Answered.{progressTold, recordToldOf, nextToldOf}
 
 -- what a step tells

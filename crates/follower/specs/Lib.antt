@@ -1,5 +1,2 @@
-pub mod RecordNumbers
-pub mod Following
-pub mod Steps
-pub mod Advancing
 pub mod Answered
+pub mod Writing

@@ -1,14 +1,15 @@
--- The lines of `Lines` as the pieces that are written one after another, and how long they are.
+-- The line of a row as the pieces that are written one after another, and how long it is.
 -- Assumes nothing.
 use mathlib.Core.Path.{_≡_}
-use mathlib.Core.List.{List, [], _∷_, _++_, append-assoc}
+use mathlib.Core.List.{_++_, append-assoc}
 use Prim.Native.Nat.{ℕ, _+_, _<_, _≤_}
 use native.Mathlib.Omega.{arith}
 use lib.ListN.{length, length-append}
-use Rattle.lines.specs.Decimal.{digitsOf}
-use Rattle.lines.specs.Lines.{recordOf, lineOf, refusalOf}
-use Rattle.lines.specs.Pieces.{fieldBytes, slotBytes, counterBytes}
-use Rattle.lines.proofs.Decimals.{digits-few}
+use Rattle.decimals.specs.Decimal.{digitsOf}
+use Rattle.decimals.specs.Printing.{recordOf}
+use Rattle.decimals.proofs.Decimals.{digits-few}
+use Rattle.lines.specs.Lines.{lineOf}
+use Rattle.lines.specs.Pieces.{slotBytes, counterBytes}
 
 pub slot-length : (slot group turn : ℕ) → length (slotBytes slot group turn) ≡ length (digitsOf slot) + length (digitsOf group) + 4
 unfolding slotBytes
@@ -29,19 +30,6 @@ module _ (slot group turn urgent long resolution : ℕ) where
   unfolding lineOf recordOf
   line-length = simp length-append (omega arith)
 
--- `refused,`
-abbrev pub refusedBytes : List ℕ
-refusedBytes = 114 ∷ 101 ∷ 102 ∷ 117 ∷ 115 ∷ 101 ∷ 100 ∷ 44 ∷ []
-
-module _ (number place : ℕ) where
-  pub refusal-pieces : refusedBytes ++ fieldBytes number 44 ++ fieldBytes place 13 ++ (10 ∷ []) ≡ refusalOf number place
-  unfolding refusalOf recordOf
-  refusal-pieces = simp append-assoc
-
-  pub refusal-length : length (refusalOf number place) ≡ length (digitsOf number) + length (digitsOf place) + 11
-  unfolding refusalOf recordOf
-  refusal-length = simp length-append (omega arith)
-
 -- ---- HOW LONG A LINE CAN BE
 
 -- a slot number of 64 bits, a group below 1,000 and counters below 100,000
@@ -57,7 +45,3 @@ line-within slot group turn urgent long resolution s g u l r =
       digits-few 4 long l,
       digits-few 4 resolution r,
     )
-
--- a number below 1,000 and a record's number of 64 bits
-pub refusal-within : (number place : ℕ) → number < 1000 → place ≤ 18446744073709551615 → length (refusalOf number place) ≤ 34
-refusal-within number place n p = omega (arith, refusal-length number place, digits-few 2 number n, digits-few 19 place (omega arith))

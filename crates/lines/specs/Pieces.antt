@@ -1,11 +1,7 @@
--- The private steps on the way to `lineOf` and `refusalOf`: what the writers of a field and of a line's two halves write.
+-- The private steps on the way to `lineOf`: what the writers of a line's two halves write.
 use mathlib.Core.List.{List, [], _∷_, _++_}
 use Prim.Native.Nat.{ℕ}
-use Rattle.lines.specs.Decimal.{digitsOf}
-
--- a number and one byte after it
-abbrev pub fieldBytes : ℕ → ℕ → List ℕ
-fieldBytes value after = digitsOf value ++ (after ∷ [])
+use Rattle.decimals.specs.Printing.{fieldBytes}
 
 -- `slot,group,turn,`
 unfoldable pub slotBytes : ℕ → ℕ → ℕ → List ℕ

@@ -17,21 +17,21 @@ use rules::Listened;
 use rules::StartAnswer;
 use rules::Turn;
 use runs_cases::Group;
-use runs_cases::begins;
 use runs_cases::count;
 use runs_cases::counts;
 use runs_cases::group_at;
-use runs_cases::is_note;
 use runs_cases::line_end;
 use runs_cases::number;
 use runs_cases::number8;
-use runs_cases::number16;
+use runs_cases::which;
+use runs_cases::whole;
 use runs_cases::words;
-use runs_text::field;
-use runs_text::field8;
-use runs_text::field16;
-use runs_text::refused_text;
+use runs_records::counters_numbers;
+use runs_records::counters_of;
+use runs_records::turn_number;
+use runs_text::form;
 use runs_text::text;
+use runs_text::worded;
 ghost use mathlib.Core.Path.{_≡_};
 ghost use Rattle.rules.specs.Listening.{listeningOf};
 
@@ -44,57 +44,22 @@ struct Given {
 
 // ---- records and answers as text
 
-fn mark(yes: bool) -> u64 {
-    if yes { 1 } else { 0 }
-}
-
-fn resolution_text(resolution: [u16; 8]) {
-    text(b" RQ");
-    let mut g: usize = 0;
-    while g < 8 {
-        field16(resolution[g]);
-        g += 1;
-    }
-}
-
-fn opened_text(opened: [bool; 8]) {
-    text(b" Open");
-    let mut g: usize = 0;
-    while g < 8 {
-        field(mark(opened[g]));
-        g += 1;
-    }
-}
-
 fn record_text(c: Counters) {
-    text(b" m");
-    field8(c.minislots);
-    text(b" n");
-    field8(c.groups);
-    text(b" next");
-    field8(c.next);
-    text(b" H");
-    field16(c.urgent);
-    text(b" N");
-    field16(c.long);
-    let resolution = c.resolution;
-    resolution_text(resolution);
-    let opened = c.opened;
-    opened_text(opened);
+    let numbers = counters_numbers(c);
+    form(
+        b" m,# n,# next,# H,# N,# RQ,#,#,#,#,#,#,#,# Open,#,#,#,#,#,#,#,#",
+        &numbers[0..21],
+    );
 }
 
 fn turn_text(turn: Turn) {
-    match turn {
-        Turn::Urgent => text(b" u"),
-        Turn::Long => text(b" l"),
-        Turn::Resolve => text(b" r"),
-        Turn::Open => text(b" o"),
-    }
+    let numbers = [turn_number(turn)];
+    worded(b" @", b"u l r o ", &numbers);
 }
 
 fn refusal_text(number: u8) {
-    text(b" ");
-    refused_text(number);
+    let numbers = [number as u64];
+    form(b" refused,#", &numbers);
 }
 
 pub(crate) fn heard_text(heard: Listened) {
@@ -121,7 +86,7 @@ fn start_text(m: u8, n: u8) {
 }
 
 // The lent form: the record is lent for the row, and is handed on as it is found after.
-pub(crate) fn lent(c: Counters, words: &[u16], counts: &[u8]) -> Listened
+fn lent(c: Counters, words: &[u16], counts: &[u8]) -> Listened
     ensures { λ r. ⌜ r ≡ listeningOf c (now (words .entry)) (now (counts .entry)) ⌝ }
 {
     let mut record = c;
@@ -132,118 +97,63 @@ pub(crate) fn lent(c: Counters, words: &[u16], counts: &[u8]) -> Listened
     }
 }
 
-// A call on a record and what is lent, if the line asks for one.
-fn call_text(line: &[u8], c: Counters, words: &[u16], counts: &[u8]) {
-    if begins(line, b"value") {
-        heard_text(listener::listen(c, words, counts));
-    }
-    if begins(line, b"lent") {
-        heard_text(lent(c, words, counts));
-    }
-    if begins(line, b"place") {
-        let head = group_at(line, 0);
-        let start = number(head, 1) as usize;
-        heard_text(listener::listen_at(c, words, counts, start));
+// Listening in one of three ways: 1 by value, 2 from a place of what is lent, 3 with the record lent.
+pub(crate) fn heard_by(
+    way: u64,
+    c: Counters,
+    words: &[u16],
+    counts: &[u8],
+    place: usize,
+) -> Listened {
+    match way {
+        1 => listening::listen(c, words, counts),
+        2 => listening::listen_at(c, words, counts, place),
+        _ => lent(c, words, counts),
     }
 }
 
-fn called(line: &[u8], s: Given) {
+fn call_text(s: Given, way: u64, place: usize) {
     let c = s.counters;
     let w = s.words;
     let k = s.counts;
-    let words = words(w);
-    let counts = counts(k);
+    let words = words(w, 1, 1);
+    let counts = counts(k, 1, 1);
     let many = count(w);
     let end = count(k);
-    call_text(line, c, &words[0..many], &counts[0..end]);
+    heard_text(heard_by(way, c, &words[0..many], &counts[0..end], place));
 }
 
 // ---- the cases
 
-// The eight numbers of a group: as they are, and as marks.
-fn eight(g: Group) -> [u16; 8] {
-    let mut numbers = [0u16; 8];
-    let mut i: usize = 0;
-    while i < 8 {
-        numbers[i] = number16(g, i + 1);
-        i += 1;
-    }
-    numbers
-}
-
-fn marks(g: Group) -> [bool; 8] {
-    let mut marks = [false; 8];
-    let mut i: usize = 0;
-    while i < 8 {
-        marks[i] = number(g, i + 1) == 1;
-        i += 1;
-    }
-    marks
-}
-
-// The record of a line `before`.
-fn record_of(line: &[u8]) -> Counters {
-    let head = group_at(line, 0);
-    let m = group_at(line, head.next);
-    let n = group_at(line, m.next);
-    let next = group_at(line, n.next);
-    let urgent = group_at(line, next.next);
-    let long = group_at(line, urgent.next);
-    let resolution = group_at(line, long.next);
-    let opened = group_at(line, resolution.next);
-    Counters {
-        minislots: number8(m, 1),
-        groups: number8(n, 1),
-        next: number8(next, 1),
-        urgent: number16(urgent, 1),
-        long: number16(long, 1),
-        resolution: eight(resolution),
-        opened: marks(opened),
-    }
-}
-
-// What is given after a line.
-fn taken(s: Given, line: &[u8]) -> Given {
-    let counters = s.counters;
-    let words = s.words;
-    let counts = s.counts;
-    if begins(line, b"before") {
-        let counters = record_of(line);
-        return Given {
-            counters,
-            words,
-            counts,
-        };
-    }
-    if begins(line, b"row") {
-        let head = group_at(line, 0);
-        let words = group_at(line, head.next);
-        let counts = group_at(line, words.next);
-        return Given {
-            counters,
-            words,
-            counts,
-        };
+// What is given after a line that is written, with its answer behind it: 1 to 3 a call, 4 a start, 5 a record, 6 a row.
+fn answered(s: Given, kind: u64, line: &[u8], head: Group) -> Given {
+    let mut s = s;
+    match kind {
+        4 => start_text(number8(head, 1), number8(head, 2)),
+        5 => s.counters = counters_of(whole(line)),
+        6 => {
+            let words = group_at(line, head.next);
+            s.words = words;
+            s.counts = group_at(line, words.next);
+        }
+        _ => call_text(s, kind, number(head, 1) as usize),
     }
     s
 }
 
 // One line.
 fn case(s: Given, line: &[u8]) -> Given {
-    if is_note(line) {
+    let head = group_at(line, 0);
+    let kind = which(line, 0, b"value place lent start before row recording ");
+    if kind == 0 {
         return s;
     }
-    let head = group_at(line, 0);
-    if begins(line, b"recording") {
+    if kind == 7 {
         recordings(number(head, 1) as usize, number8(head, 2), number8(head, 3));
         return s;
     }
     text(line);
-    if begins(line, b"start") {
-        start_text(number8(head, 1), number8(head, 2));
-    }
-    let after = taken(s, line);
-    called(line, after);
+    let after = answered(s, kind, line, head);
     text(b"\n");
     after
 }
@@ -261,9 +171,8 @@ fn cases(bytes: &[u8], s: Given) {
 fn main() {
     let mut space = io::large_buffer();
     let n = io::read_full(STDIN_FILENO, &mut space);
-    let started = listener::start(2, 1);
-    let counters = started.counters;
     let none = group_at(b"", 0);
+    let counters = counters_of(none);
     cases(
         &space[..n],
         Given {

@@ -4,10 +4,10 @@ use mathlib.Core.Path.{_≡_, ap, _∙_}
 use mathlib.Core.List.{List}
 use Prim.Native.Nat.{ℕ}
 use Rattle.rules.specs.Calls.{Call}
-use Rattle.rules.specs.ChannelCalls.{channelCall}
+use Rattle.channel_rules.specs.ChannelCalls.{channelCall}
 use Rattle.rules.specs.Numbers.{startTold, callTold}
-use Rattle.rules.specs.Answered.{channelStartToldOf, channelToldOf}
-use Rattle.rules.proofs.NumbersHold.{channel-start-told, channel-told}
+use Rattle.channel_rules.specs.Answered.{channelStartToldOf, channelToldOf}
+use Rattle.channel_rules.proofs.NumbersHold.{channel-start-told, channel-told}
 use Rattle.local_channel.specs.declared.LocalChannel.{LocalChannel}
 use Rattle.local_channel.specs.declared.LocalStarted.{LocalStarted}
 use Rattle.local_channel.specs.declared.LocalCalled.{LocalCalled}

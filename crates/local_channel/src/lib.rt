@@ -1,17 +1,15 @@
-// A channel that its caller holds by value: its records are lent to the channel's calls and taken back here, so that a caller needs no
-// reference of its own.
-use calls::CallReply;
-use calls::StartReply;
+// A channel that its caller holds by value: room for its records, the wire, and the channel's three calls on it.
+use lent_channel::offer_lent;
+use lent_channel::slot_lent;
+use lent_channel::start_lent;
 use rules::Answer;
 use rules::StartAnswer;
 use rules::Station;
 use rules::WireRow;
 ghost use mathlib.Core.Path.{_≡_};
-ghost use Prim.Native.Nat.{_≤_, min};
-ghost use Rattle.rules.specs.ChannelCalls.{channelStartOf, channelOfferOf, channelSlotOf};
 ghost use Rattle.rules.specs.Numbers.{startTold, callTold};
-ghost use Rattle.rules.specs.Answered.{channelStartToldOf, channelOfferToldOf, channelSlotToldOf};
-ghost use Rattle.local_channel.specs.Local.{lentOf, lentBy, startLentOf, callLentOf, localStartOf, localOfferOf, localSlotOf};
+ghost use Rattle.channel_rules.specs.Answered.{channelStartToldOf, channelOfferToldOf, channelSlotToldOf};
+ghost use Rattle.local_channel.specs.Local.{lentBy, localStartOf, localOfferOf, localSlotOf};
 
 // Room for 65 records, of which the first `count` are lent to the channel's calls, and the wire. A count above 65 lends all of them.
 pub struct LocalChannel {
@@ -32,45 +30,7 @@ pub struct LocalCalled {
     pub answer: Answer,
 }
 
-// The room after a start on its first records, and the start's result.
-struct StartLent {
-    stations: [Station; 65],
-    reply: StartReply,
-}
-
-// The room after an offer or a slot on its first records, and the call's result.
-struct CallLent {
-    stations: [Station; 65],
-    reply: CallReply,
-}
-
-// How many records of the room are lent.
-fn lent_count(count: usize) -> usize
-    ensures { λ r. ⌜ r ≡ min count 65 ⌝ }
-{
-    if count < 65 { count } else { 65 }
-}
-
 // ---- starting
-
-fn start_lent(
-    stations: [Station; 65],
-    count: usize,
-    wire: [WireRow; 8],
-    m: u8,
-    n: u8,
-    indexes: &[u16],
-) -> StartLent
-    requires { ⌜ count ≤ 65 ⌝ }
-    ensures { λ r. ⌜ r ≡ startLentOf stations count (channelStartOf (lentOf stations count wire) m n (now (indexes .entry))) ⌝ }
-{
-    let mut table = stations;
-    let reply = channel::start(&mut table[..count], wire, m, n, indexes);
-    StartLent {
-        stations: table,
-        reply,
-    }
-}
 
 // Starts the channel, by `channel::start` on the first `count` records.
 pub fn start(c: LocalChannel, m: u8, n: u8, indexes: &[u16]) -> LocalStarted
@@ -81,7 +41,7 @@ pub fn start(c: LocalChannel, m: u8, n: u8, indexes: &[u16]) -> LocalStarted
 {
     let room = c.stations;
     let before = c.wire;
-    let started = start_lent(room, lent_count(c.count), before, m, n, indexes);
+    let started = start_lent(room, c.count, before, m, n, indexes);
     let stations = started.stations;
     let start_reply = started.reply;
     let wire = start_reply.wire;
@@ -98,24 +58,6 @@ pub fn start(c: LocalChannel, m: u8, n: u8, indexes: &[u16]) -> LocalStarted
 
 // ---- offering
 
-fn offer_lent(
-    stations: [Station; 65],
-    count: usize,
-    wire: [WireRow; 8],
-    index: u16,
-    bytes: usize,
-) -> CallLent
-    requires { ⌜ count ≤ 65 ⌝ }
-    ensures { λ r. ⌜ r ≡ callLentOf stations count (channelOfferOf (lentOf stations count wire) index bytes) ⌝ }
-{
-    let mut table = stations;
-    let reply = channel::offer(&mut table[..count], wire, index, bytes);
-    CallLent {
-        stations: table,
-        reply,
-    }
-}
-
 // Offers a message of this many bytes to the station of an index, by `channel::offer` on the first `count` records.
 pub fn offer(c: LocalChannel, index: u16, bytes: usize) -> LocalCalled
     ensures { λ r. ⌜
@@ -125,7 +67,7 @@ pub fn offer(c: LocalChannel, index: u16, bytes: usize) -> LocalCalled
 {
     let room = c.stations;
     let before = c.wire;
-    let offered = offer_lent(room, lent_count(c.count), before, index, bytes);
+    let offered = offer_lent(room, c.count, before, index, bytes);
     let stations = offered.stations;
     let offer_reply = offered.reply;
     let wire = offer_reply.wire;
@@ -142,18 +84,6 @@ pub fn offer(c: LocalChannel, index: u16, bytes: usize) -> LocalCalled
 
 // ---- a slot
 
-fn slot_lent(stations: [Station; 65], count: usize, wire: [WireRow; 8], picks: &[u8]) -> CallLent
-    requires { ⌜ count ≤ 65 ⌝ }
-    ensures { λ r. ⌜ r ≡ callLentOf stations count (channelSlotOf (lentOf stations count wire) (now (picks .entry))) ⌝ }
-{
-    let mut table = stations;
-    let reply = channel::slot(&mut table[..count], wire, picks);
-    CallLent {
-        stations: table,
-        reply,
-    }
-}
-
 // A slot of the next group, by `channel::slot` on the first `count` records.
 pub fn slot(c: LocalChannel, picks: &[u8]) -> LocalCalled
     ensures { λ r. ⌜
@@ -163,7 +93,7 @@ pub fn slot(c: LocalChannel, picks: &[u8]) -> LocalCalled
 {
     let room = c.stations;
     let before = c.wire;
-    let slotted = slot_lent(room, lent_count(c.count), before, picks);
+    let slotted = slot_lent(room, c.count, before, picks);
     let stations = slotted.stations;
     let slot_reply = slotted.reply;
     let wire = slot_reply.wire;

@@ -1,3 +1,1 @@
 pub mod Message
-pub mod Segment
-pub mod Joined

@@ -1,12 +1,6 @@
-// A minislot: what is heard of it as a word and a count, and what that reads as; a row of them, read and made.
-pub mod sending; // making a row
-
+// A minislot: what is heard of it as a word and a count, and what that reads as.
 ghost use mathlib.Core.Path.{_≡_};
-ghost use Rattle.minislot.specs.Reading.{readingOf, singleOf, emptyOf, numberOf, readingAnswer, readingAnswerOf};
-ghost use Rattle.minislot.specs.Row.{minislotsOf, rowOf, rowAtOf, rowAnswer, weightOf};
-ghost use mathlib.Core.List.{[]};
-ghost use Prim.Native.Nat.{_<_, _≤_};
-ghost use lib.ListN.{length};
+ghost use Rattle.minislot.specs.Reading.{readingOf, singleOf, emptyOf, readingAnswer, readingAnswerOf};
 
 // What a minislot carries: the OR of its senders' words and of their counts.
 pub struct Minislot {
@@ -78,108 +72,6 @@ fn single(word: u16, count: u8) -> Reading
     if count == 0 {
         return Reading::Refused(3);
     }
-    let index = pattern::index_of(word);
+    let index = indexing::index_of(word);
     Reading::Heard(Feedback::Single(index, count))
-}
-
-// The number of a reading: 0 where the minislot is heard.
-fn number_of(reading: Reading) -> u8
-    ensures { λ r. ⌜ r ≡ numberOf reading ⌝ }
-{
-    match reading {
-        Reading::Heard(_) => 0,
-        Reading::Refused(n) => n,
-    }
-}
-
-// What a minislot adds to its row's weight.
-fn weight_of(feedback: Feedback) -> u8
-    ensures { λ r. ⌜ r ≡ weightOf feedback ⌝ }
-{
-    match feedback {
-        Feedback::Empty => 0,
-        Feedback::Single(_, _) => 1,
-        Feedback::Collide => 2,
-    }
-}
-
-// A row that is refused.
-fn refused(number: u8) -> RowReading
-    requires { ⌜ 0 < number ⌝ }
-    ensures { λ r. ⌜ r ≡ rowAnswer number [] ⌝ }
-{
-    RowReading {
-        number,
-        weight: 0,
-        minislots: [MinislotFeedback {
-            feedback: Feedback::Empty,
-        }; 8],
-    }
-}
-
-// Reads a row of m minislots. 6: the row has not m minislots. Then 1 to 4 for the first bad minislot.
-pub fn read_row(words: &[u16], counts: &[u8], m: u8) -> RowReading
-    ensures { λ r. ⌜ r ≡ rowOf m (now (words .entry)) (now (counts .entry)) ⌝ }
-{
-    let n = m as usize;
-    if n < 2 {
-        return refused(6);
-    }
-    if 8 < n {
-        return refused(6);
-    }
-    if words.len() != n {
-        return refused(6);
-    }
-    if counts.len() != n {
-        return refused(6);
-    }
-    read_minislots(words, counts, n)
-}
-
-// Reads the minislots of a row in order, up to the first that is refused.
-fn read_minislots(words: &[u16], counts: &[u8], n: usize) -> RowReading
-    requires { ⌜ (n ≤ 8) × (length (now words) ≡ n) × (length (now counts) ≡ n) ⌝ }
-    ensures { λ r. ⌜ r ≡ minislotsOf (now (words .entry)) (now (counts .entry)) ⌝ }
-{
-    let mut minislots = [MinislotFeedback {
-        feedback: Feedback::Empty,
-    }; 8];
-    let mut weight: u8 = 0;
-    let mut j: usize = 0;
-    while j < n {
-        let answer = read(words[j], counts[j]);
-        let Reading::Heard(feedback) = answer else {
-            return refused(number_of(answer));
-        };
-        minislots[j] = MinislotFeedback { feedback };
-        weight += weight_of(feedback);
-        j += 1;
-    }
-    RowReading {
-        number: 0,
-        weight,
-        minislots,
-    }
-}
-
-// Reads the row that begins at a place of a longer recording. 6: the recording has not m minislots from there.
-pub fn read_row_at(words: &[u16], counts: &[u8], start: usize, m: u8) -> RowReading
-    ensures { λ r. ⌜ r ≡ rowAtOf m start (now (words .entry)) (now (counts .entry)) ⌝ }
-{
-    let n = m as usize;
-    if words.len() < start {
-        return refused(6);
-    }
-    if counts.len() < start {
-        return refused(6);
-    }
-    if words.len() - start < n {
-        return refused(6);
-    }
-    if counts.len() - start < n {
-        return refused(6);
-    }
-    let end = start + n;
-    read_row(&words[start..end], &counts[start..end], m)
 }

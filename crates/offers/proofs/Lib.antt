@@ -1,4 +1,2 @@
 -- What an offer comes to, written over the lent table, is the channel's definition.
-pub mod Numbers
 pub mod Offers
-mod Positions

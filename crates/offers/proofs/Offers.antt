@@ -12,14 +12,14 @@ use borrow.Author.Tests.{eqb-true}
 use Rattle.rules.specs.declared.Station.{Station}
 use Rattle.rules.specs.declared.WireRow.{WireRow}
 use Rattle.rules.specs.StationCalls.{noStation, withMessage}
-use Rattle.rules.specs.ChannelCalls.{refused, positionOf, takenAt, channelOfferNumberOf, channelOfferOf}
+use Rattle.channel_rules.specs.ChannelCalls.{refused, positionOf, takenAt, channelOfferNumberOf, channelOfferOf}
 use Rattle.table.specs.Loading.{absent, loadOf}
 use Rattle.table.proofs.Loading.{load-count, store-none, store-with}
 use Rattle.calls.specs.ByValue.{channelOf, arrayChannel}
 use Rattle.calls.proofs.ByValue.{many-false, array-at, load-full, array-loaded, array-many}
 use Rattle.offers.specs.declared.Offered.{Offered}
 use Rattle.offers.specs.Offering.{refusedOffered, takenOf, offeredOf, offerLeft}
-use Rattle.offers.proofs.Numbers.{offer-passed, offer-14}
+use Rattle.offer_numbers.proofs.Numbers.{offer-passed, offer-14}
 
 module _ (ys : List Station) (wire : List WireRow) (index bytes : ℕ) where
   stays : (k : ℕ) → offerLeft ys (refusedOffered wire k) ≡ refused (channelOf ys wire) k

@@ -8,7 +8,7 @@ use Rattle.rules.specs.declared.Station.{Station}
 use Rattle.rules.specs.declared.WireRow.{WireRow}
 use Rattle.rules.specs.Refusing.{byNumber}
 use Rattle.rules.specs.StationCalls.{withMessage}
-use Rattle.rules.specs.ChannelCalls.{ChannelResult, positionOf, channelOfferNumberOf}
+use Rattle.channel_rules.specs.ChannelCalls.{ChannelResult, positionOf, channelOfferNumberOf}
 use Rattle.table.specs.Loading.{absent, of, blankOf, withOf, storeOf}
 use Rattle.calls.specs.ByValue.{channelOf, arrayTable, arrayChannel}
 use Rattle.calls.specs.Replies.{refusedReply}

@@ -1,25 +1,22 @@
-// An offer on a channel: its number in order of checking, and what it comes to, on a copy of the table.
+// An offer on a channel: what it comes to, by its number, on a copy of the table.
 use calls::CallReply;
-use calls::has_stations;
 use calls::refuse;
-use conditions::offering::taking;
+use offer_numbers::offer_number;
+use positions::position_of;
 use rules::Answer;
 use rules::Condition;
 use rules::Station;
 use rules::WireRow;
-use soundness::sound;
-use station::with_condition;
 use table::Loaded;
 use table::blanks;
 use table::hold;
-use table::least;
+use taking::taking;
+use taking::with_condition;
 ghost use mathlib.Core.Path.{_≡_};
 ghost use Prim.Native.Nat.{_<_};
-ghost use lib.ListN.{getD, take};
+ghost use lib.ListN.{getD};
 ghost use Rattle.rules.specs.StationCalls.{takingNumberOf};
-ghost use Rattle.rules.specs.ChannelCalls.{positionOf, channelOfferNumberOf};
 ghost use Rattle.table.specs.Loading.{absent};
-ghost use Rattle.calls.specs.ByValue.{arrayChannel};
 ghost use Rattle.offers.specs.Offering.{refusedOffered, takenOf, offeredOf};
 
 // What an offer comes to: the records to be written over the table (none where it is refused), and its reply.
@@ -27,52 +24,6 @@ pub struct Offered {
     pub loaded: Loaded,
     pub reply: CallReply,
 }
-
-// ---- its number
-
-// How many of the first n stations stand before the first of an index; all of them if there is none.
-fn position_of(stations: [Station; 64], n: usize, index: u16) -> usize
-    ensures { λ r. ⌜ r ≡ positionOf index (take n stations) ⌝ }
-{
-    let end = least(n, 64);
-    let mut i: usize = 0;
-    while i < end {
-        let s = stations[i];
-        if s.index == index {
-            return i;
-        }
-        i += 1;
-    }
-    end
-}
-
-// The number of an offer on the first n of the records, 0 where it goes through: 14, 18, 16, 9, 10.
-pub fn offer_number(
-    stations: [Station; 64],
-    n: usize,
-    wire: [WireRow; 8],
-    index: u16,
-    bytes: usize,
-) -> u8
-    ensures { λ r. ⌜ r ≡ channelOfferNumberOf (arrayChannel stations n wire) index bytes ⌝ }
-{
-    if !has_stations(n) {
-        return 14;
-    }
-    if !sound(stations, n, wire) {
-        return 18;
-    }
-    let k = position_of(stations, n, index);
-    if n <= k {
-        return 16;
-    }
-    let s = stations[k];
-    let condition = s.condition;
-    let taken = taking(condition, bytes);
-    taken.number
-}
-
-// ---- what it comes to
 
 fn refuse_offer(wire: [WireRow; 8], number: u8) -> Offered
     ensures { λ r. ⌜ r ≡ refusedOffered wire number ⌝ }

@@ -1,2 +1,2 @@
-pub mod Minislots
-pub mod Fitting
+mod Minislots
+mod Fitting

@@ -1,1 +1,1 @@
-pub mod Landable
+pub mod Countable

@@ -29,7 +29,7 @@ use Rattle.rules.specs.Stepping.{stepOf}
 use Rattle.pass.specs.Rounds.{roundsOf}
 use Rattle.pass.proofs.Values.{outcome, slot, sent}
 use Rattle.pass.proofs.rounds as rounds′
-use Rattle.station.proofs.step as step′
+use Rattle.stepping.proofs.step as step′
 use Rattle.sending.proofs.silence as silence′
 use Rattle.sending.proofs.gather as gather′
 

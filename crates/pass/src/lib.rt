@@ -1,11 +1,11 @@
 // One pass over the lent table: each station takes its slot's step in place, and what they send is gathered.
+use drawing::least;
 use rules::Outcome;
 use rules::Sent;
 use rules::Station;
 use sending::gather;
 use sending::silence;
-use station::step;
-use table::least;
+use stepping::step;
 ghost use mathlib.Core.Path.{_≡_};
 ghost use Rattle.pass.specs.Rounds.{roundsOf};
 ghost use Rattle.slots.specs.Stepped.{steppedOf, gatheredOf};
@@ -17,7 +17,7 @@ fn rounds(n: usize, m: usize, steps: usize) -> usize
     least(least(n, m), steps)
 }
 
-// So many stations step by the slot's outcome, each with its pick, by `station::step`.
+// So many stations step by the slot's outcome, each with its pick, by `stepping::step`.
 pub fn step_all(table: &mut [Station], picks: &[u8], o: Outcome, steps: usize) -> Sent
     ensures { λ r. ⌜
         (now (table .exit) ≡ steppedOf o steps (now (table .entry)) (now (picks .entry)))

@@ -1,4 +1,3 @@
 pub mod Ones
 pub mod Those
 pub mod Patterns
-pub mod Halves

@@ -2,8 +2,7 @@
 //
 // The walk goes through the numbers below 4096 and counts the ones of each by halving it. Each line has how many were tried and how
 // many were as they must be.
-use runs_text::decimal;
-use runs_text::text;
+use runs_text::form;
 ghost use mathlib.Core.Path.{_≡_};
 ghost use Prim.Native.Nat.{_≤_};
 ghost use lib.ListN.{length};
@@ -36,70 +35,80 @@ fn rebuild(space: &mut [u16]) -> usize
     found
 }
 
+// ---- tallies
+
+// A sum that can't pass the type's limit; none here comes near 10^12.
+fn plus(a: u64, b: u64) -> u64 {
+    a % 1000000000000 + b % 1000000000000
+}
+
+// The sum with one more if two numbers are equal.
+fn counted(sum: u64, a: u16, b: u16) -> u64 {
+    if a == b { plus(sum, 1) } else { sum }
+}
+
+fn wide(word: u16) -> u64 {
+    word as u64
+}
+
 // The word of an index in the table that is lent, and 0 past its end.
 fn entry(table: &[u16; 924], index: usize) -> u16 {
     if index < 924 { table[index] } else { 0 }
 }
 
-// How many of the words stand in the table at the same place.
-fn in_table(words: &[u16], table: &[u16; 924]) -> usize {
-    let mut equal: usize = 0;
-    let mut i: usize = 0;
-    while i < words.len() {
-        if words[i] == entry(table, i) {
-            equal += 1;
-        }
-        i += 1;
-    }
-    equal
-}
-
-// How many of the words the library gives for their place.
-fn by_index(words: &[u16]) -> usize
+// How many of the words stand in the table lent at the same place, are given by the library for their place, and are given their place by
+// it; and the sum of the words.
+fn compared(words: &[u16], table: &[u16; 924]) -> [u64; 4]
     requires { ⌜ length (now words) ≤ 4096 ⌝ }
 {
-    let mut equal: usize = 0;
+    let mut in_table: u64 = 0;
+    let mut by_index: u64 = 0;
+    let mut by_word: u64 = 0;
+    let mut sum: u64 = 0;
     let mut i: usize = 0;
     while i < words.len() {
-        if pattern::word_of(i as u16) == words[i] {
-            equal += 1;
-        }
+        let word = words[i];
+        let index = i as u16;
+        in_table = counted(in_table, word, entry(table, i));
+        by_index = counted(by_index, word, wording::word_of(index));
+        by_word = counted(by_word, indexing::index_of(word), index);
+        sum = plus(sum, wide(word));
         i += 1;
     }
-    equal
+    [in_table, by_index, by_word, sum]
 }
 
-// For how many of the words the library gives their place.
-fn by_word(words: &[u16]) -> usize {
-    let mut equal: usize = 0;
-    let mut i: usize = 0;
-    while i < words.len() {
-        if pattern::index_of(words[i]) as usize == i {
-            equal += 1;
-        }
-        i += 1;
-    }
-    equal
-}
-
-fn wide(word: u16) -> u64
-    ensures { λ r. ⌜ r ≤ 65535 ⌝ }
-{
-    word as u64
-}
-
-// The sum of the words.
-fn sum(words: &[u16]) -> u64
+// The patterns.
+fn patterns(words: &[u16], table: &[u16; 924])
     requires { ⌜ length (now words) ≤ 4096 ⌝ }
 {
-    let mut total: u64 = 0;
-    let mut i: usize = 0;
-    while i < words.len() {
-        total += wide(words[i]);
-        i += 1;
+    let n = words.len();
+    if n == 0 {
+        return;
     }
-    total
+    let right = compared(words, table);
+    let tried = n as u64;
+    let first = wide(words[0]);
+    let last = wide(words[n - 1]);
+    let numbers = [
+        tried,
+        right[0],
+        tried,
+        right[1],
+        tried,
+        right[2],
+        first,
+        last,
+        right[3],
+    ];
+    form(
+        b"rebuilt # words, # equal to the table\n# indexes, # with word_of equal\n# words, # with index_of equal\n\
+first word #, last word #\nsum of the words #\n",
+        &numbers,
+    );
 }
+
+// ---- the words and indexes that are no pattern's
 
 // Whether a number is no pattern: it has a one above bit 11, or not six ones.
 fn is_other(number: u16) -> bool {
@@ -109,118 +118,50 @@ fn is_other(number: u16) -> bool {
     ones(number) != 6
 }
 
-// How many numbers from the first up to the end are no patterns.
-fn others(first: usize, end: usize) -> usize
+// How many numbers from the first up to the end are no patterns, and how many of those the library gives no index.
+fn others(first: usize, end: usize) -> [u64; 2]
     requires { ⌜ end ≤ 65536 ⌝ }
 {
-    let mut count: usize = 0;
+    let mut tried: u64 = 0;
+    let mut right: u64 = 0;
     let mut number = first;
     while number < end {
-        if is_other(number as u16) {
-            count += 1;
+        let word = number as u16;
+        if is_other(word) {
+            tried = plus(tried, 1);
+            right = counted(right, indexing::index_of(word), 924);
         }
         number += 1;
     }
-    count
-}
-
-// Whether a number is no pattern and the library gives it no index.
-fn lacks_index(number: u16) -> bool {
-    if pattern::index_of(number) == 924 {
-        return is_other(number);
-    }
-    false
-}
-
-// How many numbers from the first up to the end are no patterns and have no index.
-fn others_without_index(first: usize, end: usize) -> usize
-    requires { ⌜ end ≤ 65536 ⌝ }
-{
-    let mut count: usize = 0;
-    let mut number = first;
-    while number < end {
-        if lacks_index(number as u16) {
-            count += 1;
-        }
-        number += 1;
-    }
-    count
+    [tried, right]
 }
 
 // How many indexes from 924 to 65535 have no word.
-fn indexes_without_word() -> usize {
-    let mut count: usize = 0;
+fn indexes_without_word() -> u64 {
+    let mut count: u64 = 0;
     let mut index: usize = 924;
     while index < 65536 {
-        if pattern::word_of(index as u16) == 0 {
-            count += 1;
-        }
+        count = counted(count, wording::word_of(index as u16), 0);
         index += 1;
     }
     count
 }
 
-// Some of a line's text, then a number.
-fn part(what: &[u8], n: u64) {
-    text(what);
-    decimal(n);
-}
-
-// A line: a number, what was tried, how many of them were right, and in what.
-fn line(tried: usize, what: &[u8], right: usize, how: &[u8]) {
-    decimal(tried as u64);
-    part(what, right as u64);
-    text(how);
-}
-
-fn ends(words: &[u16]) {
-    let n = words.len();
-    if n == 0 {
-        return;
-    }
-    part(b"first word ", wide(words[0]));
-    part(b", last word ", wide(words[n - 1]));
-    text(b"\n");
-}
-
-// The patterns, compared with the table lent and against both look-ups.
-fn patterns(words: &[u16], table: &[u16; 924])
-    requires { ⌜ length (now words) ≤ 4096 ⌝ }
-{
-    let n = words.len();
-    text(b"rebuilt ");
-    line(
-        n,
-        b" words, ",
-        in_table(words, table),
-        b" equal to the table\n",
-    );
-    line(n, b" indexes, ", by_index(words), b" with word_of equal\n");
-    line(n, b" words, ", by_word(words), b" with index_of equal\n");
-    ends(words);
-    part(b"sum of the words ", sum(words));
-    text(b"\n");
-}
-
-// The words and indexes that are no pattern's.
 fn no_patterns() {
-    line(
-        others(0, 4096),
-        b" other words below 4096, ",
-        others_without_index(0, 4096),
-        b" with index_of 924\n",
-    );
-    line(
-        others(4096, 65536),
-        b" words from 4096 to 65535, ",
-        others_without_index(4096, 65536),
-        b" with index_of 924\n",
-    );
-    line(
+    let low = others(0, 4096);
+    let high = others(4096, 65536);
+    let numbers = [
+        low[0],
+        low[1],
+        high[0],
+        high[1],
         65536 - 924,
-        b" indexes from 924 to 65535, ",
         indexes_without_word(),
-        b" with word_of 0\n",
+    ];
+    form(
+        b"# other words below 4096, # with index_of 924\n# words from 4096 to 65535, # with index_of 924\n\
+# indexes from 924 to 65535, # with word_of 0\n",
+        &numbers,
     );
 }
 

@@ -9,180 +9,113 @@ use minislot::Feedback;
 use minislot::Reading;
 use minislot::RowReading;
 use runs_cases::Group;
-use runs_cases::begins;
 use runs_cases::count;
 use runs_cases::counts;
 use runs_cases::group_at;
-use runs_cases::is_note;
 use runs_cases::line_end;
 use runs_cases::number;
 use runs_cases::number8;
 use runs_cases::number16;
+use runs_cases::which;
 use runs_cases::words;
-use runs_text::field;
-use runs_text::field8;
-use runs_text::field16;
-use runs_text::refused_text;
+use runs_text::form;
 use runs_text::text;
-ghost use Prim.Native.Nat.{_≤_};
+use runs_text::worded;
+ghost use mathlib.Core.Path.{_≡_};
+ghost use Prim.Native.Nat.{_≤_, _<_};
+ghost use lib.ListN.{length};
 
-fn feedback_text(feedback: Feedback) {
+// ---- readings as numbers: 1 Empty; 2 Single, its index and count; 3 Collide; 4 refused and the refusal's number
+
+fn feedback_numbers(feedback: Feedback) -> [u64; 3] {
     match feedback {
-        Feedback::Empty => text(b"empty"),
-        Feedback::Single(index, count) => {
-            text(b"single");
-            field16(index);
-            field8(count);
-        }
-        Feedback::Collide => text(b"collide"),
+        Feedback::Empty => [1, 0, 0],
+        Feedback::Single(index, count) => [2, index as u64, count as u64],
+        Feedback::Collide => [3, 0, 0],
     }
 }
 
-fn reading_text(reading: Reading) {
+fn reading_numbers(reading: Reading) -> [u64; 3] {
     match reading {
-        Reading::Heard(feedback) => feedback_text(feedback),
-        Reading::Refused(number) => refused_text(number),
+        Reading::Heard(feedback) => feedback_numbers(feedback),
+        Reading::Refused(number) => [4, number as u64, 0],
     }
 }
 
-// The kinds of answers by numbers: 1 to 4 a refusal's own number, then Empty 5, Single 6 and Collide 7.
-fn heard_kind(feedback: Feedback) -> u8 {
-    match feedback {
-        Feedback::Empty => 5,
-        Feedback::Single(_, _) => 6,
-        Feedback::Collide => 7,
-    }
-}
-
-fn kind(reading: Reading) -> u8 {
-    match reading {
-        Reading::Heard(feedback) => heard_kind(feedback),
-        Reading::Refused(number) => number,
-    }
-}
-
-// How many of the words from the first up to the end give an answer of the kind.
-fn how_many(first: u32, end: u32, count: u8, wanted: u8) -> u32
-    requires { ⌜ end ≤ 65536 ⌝ }
+// How many of the three numbers are written.
+fn written(kind: u64) -> usize
+    ensures { λ r. ⌜ r ≤ 3 ⌝ }
 {
-    let mut given: u32 = 0;
-    let mut word = first;
-    while word < end {
-        if kind(minislot::read(word as u16, count)) == wanted {
-            given += 1;
-        }
-        word += 1;
-    }
-    given
-}
-
-// The index that an answer carries, and 0 of an answer that is no Single; the same of its count.
-fn heard_index(feedback: Feedback) -> u16 {
-    match feedback {
-        Feedback::Single(index, _) => index,
-        Feedback::Empty => 0,
-        Feedback::Collide => 0,
+    match kind {
+        2 => 3,
+        4 => 2,
+        _ => 1,
     }
 }
 
-fn heard_count(feedback: Feedback) -> u8 {
-    match feedback {
-        Feedback::Single(_, count) => count,
-        Feedback::Empty => 0,
-        Feedback::Collide => 0,
-    }
+fn reading_text(numbers: [u64; 3]) {
+    let end = written(numbers[0]);
+    worded(b" @", b"empty single collide refused ", &numbers[0..end]);
 }
 
-fn carried_index(reading: Reading) -> u64
-    ensures { λ r. ⌜ r ≤ 65535 ⌝ }
+// ---- a digest
+//
+// Its tally: Empty, Single, Collide, refusals 1 to 4, and the sums of the indexes and of the counts of Singles.
+
+// Where a reading is counted.
+fn place_of(kind: u64, number: u64) -> usize
+    ensures { λ r. ⌜ r < 9 ⌝ }
 {
-    match reading {
-        Reading::Heard(feedback) => heard_index(feedback) as u64,
-        Reading::Refused(_) => 0,
+    if kind < 4 {
+        return (kind % 4 + 8) as usize % 9;
     }
+    (number % 5 + 2) as usize
 }
 
-fn carried_count(reading: Reading) -> u64
-    ensures { λ r. ⌜ r ≤ 255 ⌝ }
-{
-    match reading {
-        Reading::Heard(feedback) => heard_count(feedback) as u64,
-        Reading::Refused(_) => 0,
-    }
+fn single(kind: u64, number: u64) -> u64 {
+    if kind == 2 { number } else { 0 }
 }
 
-// The sums of what the Singles carry.
-fn sum_of_indexes(first: u32, end: u32, count: u8) -> u64
-    requires { ⌜ end ≤ 65536 ⌝ }
-{
-    let mut sum: u64 = 0;
-    let mut word = first;
-    while word < end {
-        sum += carried_index(minislot::read(word as u16, count));
-        word += 1;
-    }
-    sum
+// A sum that can't pass the type's limit; none here comes near 10^12.
+fn plus(a: u64, b: u64) -> u64 {
+    a % 1000000000000 + b % 1000000000000
 }
 
-fn sum_of_counts(first: u32, end: u32, count: u8) -> u64
-    requires { ⌜ end ≤ 65536 ⌝ }
+// The tally with one more reading.
+fn tallied(before: [u64; 9], reading: [u64; 3]) -> [u64; 9]
+    ensures { λ r. ⌜ length r ≡ 9 ⌝ }
 {
-    let mut sum: u64 = 0;
-    let mut word = first;
-    while word < end {
-        sum += carried_count(minislot::read(word as u16, count));
-        word += 1;
-    }
-    sum
-}
-
-fn kind_field(name: &[u8], first: u32, end: u32, count: u8, wanted: u8)
-    requires { ⌜ end ≤ 65536 ⌝ }
-{
-    text(b" ");
-    text(name);
-    field(how_many(first, end, count, wanted) as u64);
+    let mut tally = before;
+    let kind = reading[0];
+    let place = place_of(kind, reading[1]);
+    tally[place] = plus(tally[place], 1);
+    tally[7] = plus(tally[7], single(kind, reading[1]));
+    tally[8] = plus(tally[8], single(kind, reading[2]));
+    tally
 }
 
 // All words from the first up to the end, with one count.
 fn digest_text(first: u32, end: u32, count: u8)
     requires { ⌜ end ≤ 65536 ⌝ }
 {
-    kind_field(b"empty", first, end, count, 5);
-    kind_field(b"single", first, end, count, 6);
-    kind_field(b"collide", first, end, count, 7);
-    kind_field(b"refused,1", first, end, count, 1);
-    kind_field(b"refused,2", first, end, count, 2);
-    kind_field(b"refused,3", first, end, count, 3);
-    kind_field(b"refused,4", first, end, count, 4);
-    text(b" indexes");
-    field(sum_of_indexes(first, end, count));
-    text(b" counts");
-    field(sum_of_counts(first, end, count));
-}
-
-// A row's whole answer: its number, its weight and its eight places.
-fn row_text(row: RowReading) {
-    text(b" number");
-    field8(row.number);
-    text(b" weight");
-    field8(row.weight);
-    let minislots = row.minislots;
-    let mut j: usize = 0;
-    while j < 8 {
-        let place = minislots[j];
-        let feedback = place.feedback;
-        text(b" ");
-        feedback_text(feedback);
-        j += 1;
+    let mut tally = [0u64; 9];
+    let mut word = first;
+    while word < end {
+        let reading = minislot::read(word as u16, count);
+        tally = tallied(tally, reading_numbers(reading));
+        word += 1;
     }
+    form(
+        b" empty,# single,# collide,# refused,1,# refused,2,# refused,3,# refused,4,# indexes,# counts,#",
+        &tally,
+    );
 }
 
 // ---- the calls
 
 fn minislot_case(head: Group) {
-    text(b" ");
-    reading_text(minislot::read(number16(head, 1), number8(head, 2)));
+    let reading = minislot::read(number16(head, 1), number8(head, 2));
+    reading_text(reading_numbers(reading));
 }
 
 // Both ends are 65536 at most.
@@ -192,44 +125,52 @@ fn digest_case(head: Group) {
     digest_text(first, end, number8(head, 3));
 }
 
-fn row_case(head: Group, w: Group, c: Group) {
-    let words = words(w);
-    let counts = counts(c);
-    let n = count(w);
-    let k = count(c);
-    row_text(minislot::read_row(&words[0..n], &counts[0..k], number8(head, 1)));
+// A row's whole answer: its number, its weight and its eight places.
+fn row_text(row: RowReading) {
+    let numbers = [row.number as u64, row.weight as u64];
+    form(b" number,# weight,#", &numbers);
+    let minislots = row.minislots;
+    let mut j: usize = 0;
+    while j < 8 {
+        let place = minislots[j];
+        let feedback = place.feedback;
+        reading_text(feedback_numbers(feedback));
+        j += 1;
+    }
 }
 
-fn row_at_case(head: Group, w: Group, c: Group) {
-    let words = words(w);
-    let counts = counts(c);
+// A row, or the row of a recording from a start.
+fn row_read(kind: u64, head: Group, words: &[u16], counts: &[u8]) -> RowReading {
+    if kind == 3 {
+        return rows::read_row(words, counts, number8(head, 1));
+    }
+    row_at::read_row_at(words, counts, number(head, 1) as usize, number8(head, 2))
+}
+
+fn row_case(kind: u64, line: &[u8], head: Group) {
+    let w = group_at(line, head.next);
+    let c = group_at(line, w.next);
+    let words = words(w, 1, 1);
+    let counts = counts(c, 1, 1);
     let n = count(w);
     let k = count(c);
-    let start = number(head, 1) as usize;
-    let m = number8(head, 2);
-    row_text(minislot::read_row_at(&words[0..n], &counts[0..k], start, m));
+    row_text(row_read(kind, head, &words[0..n], &counts[0..k]));
 }
+
+// ---- the cases
 
 // One line: it is written, and then its answer.
 fn case(line: &[u8]) {
-    if is_note(line) {
+    let head = group_at(line, 0);
+    let kind = which(line, 0, b"minislot digest row row_at ");
+    if kind == 0 {
         return;
     }
     text(line);
-    let head = group_at(line, 0);
-    let w = group_at(line, head.next);
-    let c = group_at(line, w.next);
-    if begins(line, b"minislot") {
-        minislot_case(head);
-    }
-    if begins(line, b"digest") {
-        digest_case(head);
-    }
-    if begins(line, b"row") {
-        row_case(head, w, c);
-    }
-    if begins(line, b"row_at") {
-        row_at_case(head, w, c);
+    match kind {
+        1 => minislot_case(head),
+        2 => digest_case(head),
+        _ => row_case(kind, line, head),
     }
     text(b"\n");
 }

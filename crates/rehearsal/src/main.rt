@@ -4,11 +4,9 @@
 // A line for each channel: stations, n, m; slots with the turn urgent, long, resolve, open; calls refused by 9, 10, 16, 17, 11, and by any
 // other number; messages taken, data senders; slots taken, delivered, waiting; and a digest of every answer and, after every eighth slot,
 // of every record and the wire.
-mod digest;
 mod totals;
 
-use digest::answer_digest;
-use digest::channel_digest;
+use local_channel::LocalCalled;
 use local_channel::LocalChannel;
 use runs_arrivals::ARRIVES;
 use runs_arrivals::BAD;
@@ -17,69 +15,53 @@ use runs_arrivals::draw;
 use runs_arrivals::picks_of;
 use runs_arrivals::rarity;
 use runs_arrivals::size;
-use runs_tables::blank;
+use runs_records::told;
+use runs_tables::index_of;
 use runs_tables::least;
-use runs_text::field;
-use runs_text::text;
-use totals::Totals;
+use runs_tables::offered;
+use runs_tables::slotted;
+use runs_tables::started;
+use runs_text::fields;
+use runs_text::form;
+use totals::channel_digest;
 use totals::counted;
-use totals::no_totals;
-use totals::totals_text;
+use totals::told_digest;
+use totals::waiting;
 
 const SLOTS: u64 = 3000;
 
-// A channel under way: its state, its totals and its digest.
+// A channel under way: its state, its totals and its digest. Its stations' indexes go from its number of groups on; none has 923.
 struct Drive {
     channel: LocalChannel,
-    totals: Totals,
+    totals: [u64; 14],
     digest: u64,
-}
-
-// ---- a new channel
-
-// Station k of a channel with n groups has this index; none has 923.
-fn index_of(k: usize, n: u8) -> u16 {
-    (k % 65) as u16 * 14 + n as u16
-}
-
-fn started(count: usize, m: u8, n: u8) -> LocalChannel {
-    let mut indexes = [0u16; 65];
-    let mut k: usize = 0;
-    while k < 65 {
-        indexes[k] = index_of(k, n);
-        k += 1;
-    }
-    let end = least(count, 65);
-    let r = local_channel::start(blank(count), m, n, &indexes[0..end]);
-    r.channel
 }
 
 // ---- calls
 
-fn offered(d: Drive, index: u16, bytes: usize) -> Drive {
-    let c = d.channel;
+// A call's channel, its answer counted.
+fn noted(d: Drive, r: LocalCalled) -> Drive {
     let totals = d.totals;
-    let r = local_channel::offer(c, index, bytes);
     let channel = r.channel;
     let answer = r.answer;
+    let numbers = told(answer);
     Drive {
         channel,
-        totals: counted(totals, answer),
-        digest: answer_digest(d.digest, answer),
+        totals: counted(totals, numbers),
+        digest: told_digest(d.digest, numbers),
     }
 }
 
-fn slotted(d: Drive, picks: &[u8]) -> Drive {
+fn offer(d: Drive, index: u16, bytes: usize) -> Drive {
     let c = d.channel;
-    let totals = d.totals;
-    let r = local_channel::slot(c, picks);
-    let channel = r.channel;
-    let answer = r.answer;
-    Drive {
-        channel,
-        totals: counted(totals, answer),
-        digest: answer_digest(d.digest, answer),
-    }
+    noted(d, offered(c, index, bytes))
+}
+
+// A slot with so many of the picks.
+fn slot(d: Drive, picks: [u8; 66], many: usize) -> Drive {
+    let c = d.channel;
+    let end = least(many, 66);
+    noted(d, slotted(c, &picks[0..end]))
 }
 
 fn arrivals(d: Drive, s: u64, count: usize, n: u8) -> Drive {
@@ -89,77 +71,77 @@ fn arrivals(d: Drive, s: u64, count: usize, n: u8) -> Drive {
     while k < count {
         let station = k as u64;
         if draw(s, station, ARRIVES, chance) == 0 {
-            d = offered(d, index_of(k, n), size(s, station));
+            d = offer(d, index_of(k, n), size(s, station));
         }
         k += 1;
     }
     d
 }
 
-// A slot with the first n picks.
-fn slot_with(d: Drive, picks: [u8; 66], n: usize) -> Drive {
-    let end = least(n, 66);
-    slotted(d, &picks[0..end])
+// The index and the bytes of an offer that must be refused: to no station, of nothing, of too much.
+fn bad_index(kind: u64, n: u8) -> u16 {
+    if kind == 0 { 923 } else { index_of(0, n) }
 }
 
-fn bad_offer(d: Drive, kind: u64, n: u8) -> Drive {
-    if kind == 0 {
-        return offered(d, 923, 1);
+fn bad_bytes(kind: u64) -> usize {
+    match kind {
+        0 => 1,
+        1 => 0,
+        _ => 12241,
     }
-    if kind == 1 {
-        return offered(d, index_of(0, n), 0);
-    }
-    offered(d, index_of(0, n), 12241)
 }
 
-fn bad_slot(d: Drive, kind: u64, picks: [u8; 66], count: usize, m: u8) -> Drive {
-    let mut picks = picks;
-    if kind == 3 {
-        return slot_with(d, picks, count % 65 + 1);
+// The first pick and the number of picks of a slot that must be refused: a pick too many, too few, of 0, above m.
+fn bad_pick(kind: u64, pick: u8, m: u8) -> u8 {
+    match kind {
+        5 => 0,
+        6 => m % 9 + 1,
+        _ => pick,
     }
-    if kind == 4 {
-        return slot_with(d, picks, (count % 65 + 64) % 65);
-    }
-    picks[0] = if kind == 5 { 0 } else { m % 9 + 1 };
-    slot_with(d, picks, count)
 }
 
-// A call that must be refused, in one slot of sixteen: an offer to no station, of nothing, of too much; a slot with a pick too many, too
-// few, of 0, above m.
+fn bad_many(kind: u64, count: usize) -> usize {
+    match kind {
+        3 => count % 65 + 1,
+        4 => (count % 65 + 64) % 65,
+        _ => count,
+    }
+}
+
+// A call that must be refused, in one slot of sixteen.
 fn bad_call(d: Drive, s: u64, count: usize, m: u8, n: u8) -> Drive {
     if draw(s, 0, BAD, 16) != 0 {
         return d;
     }
     let kind = draw(s, 0, BAD_KIND, 7);
     if kind < 3 {
-        return bad_offer(d, kind, n);
+        return offer(d, bad_index(kind, n), bad_bytes(kind));
     }
-    bad_slot(d, kind, picks_of(s, m), count, m)
+    let mut picks = picks_of(s, m);
+    picks[0] = bad_pick(kind, picks[0], m);
+    slot(d, picks, bad_many(kind, count))
 }
 
 // ---- one channel
 
 fn slot_of(d: Drive, s: u64, count: usize, m: u8, n: u8) -> Drive {
-    let offered = arrivals(d, s, count, n);
-    let tried = bad_call(offered, s, count, m, n);
-    let picks = picks_of(s, m);
-    let after = slot_with(tried, picks, count);
-    if s % 8 != 7 {
-        return after;
+    let tried = bad_call(arrivals(d, s, count, n), s, count, m, n);
+    let mut after = slot(tried, picks_of(s, m), count);
+    if s % 8 == 7 {
+        let channel = after.channel;
+        after.digest = channel_digest(after.digest, channel);
     }
-    let channel = after.channel;
-    let totals = after.totals;
-    Drive {
-        channel,
-        totals,
-        digest: channel_digest(after.digest, channel),
-    }
+    after
+}
+
+fn totals_text(totals: [u64; 14]) {
+    fields(&totals);
 }
 
 fn rehearse(count: usize, m: u8, n: u8) {
     let mut d = Drive {
-        channel: started(count, m, n),
-        totals: no_totals(),
+        channel: started(count, m, n, n),
+        totals: [0u64; 14],
         digest: 0,
     };
     let mut s: u64 = 0;
@@ -169,13 +151,11 @@ fn rehearse(count: usize, m: u8, n: u8) {
     }
     let channel = d.channel;
     let totals = d.totals;
-    text(b"channel");
-    field(count as u64);
-    field(n as u64);
-    field(m as u64);
-    totals_text(totals, channel);
-    field(d.digest);
-    text(b"\n");
+    let first = [count as u64, n as u64, m as u64];
+    let last = [waiting(channel), d.digest];
+    form(b"channel,#,#,#", &first);
+    totals_text(totals);
+    form(b",#,#\n", &last);
 }
 
 fn main() {

@@ -1,46 +1,73 @@
-// What is counted of a channel's answers, and what waits in its stations.
+// What is counted of a channel's answers and waits in its stations, and a digest of answers, tables and wires.
 use local_channel::LocalChannel;
-use rules::Answer;
 use rules::Condition;
-use rules::Turn;
+use runs_records::record_numbers;
+use runs_records::wire_numbers;
 use runs_tables::least;
-use runs_text::field;
+ghost use Prim.Native.Nat.{_<_};
 
-// Where each total stands.
-const TURN_URGENT: usize = 0;
+// ---- the digest: each number, in order, is added to 31 times the digest before, below 1,000,000,007
 
-const TURN_LONG: usize = 1;
-
-const TURN_RESOLVE: usize = 2;
-
-const TURN_OPEN: usize = 3;
-
-const REFUSED_9: usize = 4;
-
-const REFUSED_10: usize = 5;
-
-const REFUSED_16: usize = 6;
-
-const REFUSED_17: usize = 7;
-
-const REFUSED_11: usize = 8;
-
-const REFUSED_OTHER: usize = 9;
-
-const MESSAGES: usize = 10;
-
-const SENDERS: usize = 11;
-
-const TAKEN: usize = 12;
-
-const DELIVERED: usize = 13;
-
-pub(crate) struct Totals {
-    pub sums: [u64; 14],
+fn digest(before: u64, numbers: &[u64]) -> u64 {
+    let mut d = before;
+    let mut k: usize = 0;
+    while k < numbers.len() {
+        d = (d % 1000000007 * 31 + numbers[k] % 1000000007) % 1000000007;
+        k += 1;
+    }
+    d
 }
 
-pub(crate) fn no_totals() -> Totals {
-    Totals { sums: [0u64; 14] }
+// An answer: its numbers as `runs_records::told` has them, six of a slot and two of another call.
+pub(crate) fn told_digest(before: u64, told: [u64; 6]) -> u64 {
+    if told[0] == 3 {
+        return digest(before, &told);
+    }
+    digest(before, &told[0..2])
+}
+
+// Every station's record, then the wire.
+pub(crate) fn channel_digest(before: u64, c: LocalChannel) -> u64 {
+    let stations = c.stations;
+    let wire = c.wire;
+    let end = least(c.count, 65);
+    let mut d = before;
+    let mut k: usize = 0;
+    while k < end {
+        let s = stations[k];
+        let r = record_numbers(s);
+        let all = r.all;
+        let count = r.count;
+        d = digest(d, &all[0..count]);
+        k += 1;
+    }
+    let numbers = wire_numbers(wire);
+    digest(d, &numbers)
+}
+
+// ---- the totals
+//
+// In this order: slots with the turn urgent, long, resolve, open; calls refused by 9, 10, 16, 17, 11, and by any other number; messages
+// taken; data senders; slots taken; slots delivered.
+
+// Where an answer is counted, from its first two numbers.
+fn place_of(kind: u64, number: u64) -> usize
+    ensures { λ r. ⌜ r < 14 ⌝ }
+{
+    if kind == 2 {
+        return 10;
+    }
+    if kind == 3 {
+        return (number % 5 + 3) as usize % 4;
+    }
+    match number {
+        9 => 4,
+        10 => 5,
+        16 => 6,
+        17 => 7,
+        11 => 8,
+        _ => 9,
+    }
 }
 
 // A sum that can't pass the type's limit; no total here comes near 10^12.
@@ -48,51 +75,20 @@ fn plus(a: u64, b: u64) -> u64 {
     a % 1000000000000 + b % 1000000000000
 }
 
-fn grown(t: Totals, place: usize, by: u64) -> Totals {
-    let mut sums = t.sums;
-    if place < 14 {
-        let before = sums[place];
-        sums[place] = plus(before, by);
+// An answer's numbers are those of `runs_records::told`.
+pub(crate) fn counted(totals: [u64; 14], told: [u64; 6]) -> [u64; 14] {
+    let mut t = totals;
+    let place = place_of(told[0], told[1]);
+    t[place] = plus(t[place], 1);
+    if told[0] == 2 {
+        t[12] = plus(t[12], told[1]);
     }
-    Totals { sums }
+    t[11] = plus(t[11], told[2]);
+    t[13] = plus(t[13], told[5]);
+    t
 }
 
-fn refusal_place(number: u8) -> usize {
-    match number {
-        9 => REFUSED_9,
-        10 => REFUSED_10,
-        16 => REFUSED_16,
-        17 => REFUSED_17,
-        11 => REFUSED_11,
-        _ => REFUSED_OTHER,
-    }
-}
-
-fn turn_place(t: Turn) -> usize {
-    match t {
-        Turn::Urgent => TURN_URGENT,
-        Turn::Long => TURN_LONG,
-        Turn::Resolve => TURN_RESOLVE,
-        Turn::Open => TURN_OPEN,
-    }
-}
-
-pub(crate) fn counted(t: Totals, answer: Answer) -> Totals {
-    match answer {
-        Answer::Refused(number) => grown(t, refusal_place(number), 1),
-        Answer::Taken(total) => grown(grown(t, MESSAGES, 1), TAKEN, total as u64),
-        Answer::Went {
-            turn,
-            senders,
-            delivered,
-            ..
-        } => {
-            let by_turn = grown(t, turn_place(turn), 1);
-            let sent = grown(by_turn, SENDERS, senders as u64);
-            grown(sent, DELIVERED, delivered as u64)
-        }
-    }
-}
+// ---- what waits
 
 // The slots that wait in one station.
 fn waiting_of(k: Condition) -> u64 {
@@ -107,7 +103,7 @@ fn waiting_of(k: Condition) -> u64 {
 }
 
 // The slots that wait in all stations.
-fn waiting(c: LocalChannel) -> u64 {
+pub(crate) fn waiting(c: LocalChannel) -> u64 {
     let stations = c.stations;
     let end = least(c.count, 65);
     let mut sum: u64 = 0;
@@ -119,15 +115,4 @@ fn waiting(c: LocalChannel) -> u64 {
         k += 1;
     }
     sum
-}
-
-// All totals, in the order of their places, and what waits.
-pub(crate) fn totals_text(t: Totals, c: LocalChannel) {
-    let sums = t.sums;
-    let mut i: usize = 0;
-    while i < 14 {
-        field(sums[i]);
-        i += 1;
-    }
-    field(waiting(c));
 }

@@ -1,5 +1,1 @@
 pub mod RoundSteps
-pub mod Lines
-pub mod RoundLoop
-pub mod RoundMoves
-pub mod InReads

@@ -5,11 +5,12 @@ use mathlib.Core.List.{List}
 use Prim.Native.Nat.{ℕ}
 use lib.ListN.{length, take}
 use Rattle.follower.specs.declared.Next.{Next}
-use Rattle.rounds.specs.declared.Run.{Run}
-use Rattle.rounds.specs.declared.Wants.{Wants}
+use Rattle.standing.specs.declared.Run.{Run}
+use Rattle.standing.specs.declared.Wants.{Wants}
 use Rattle.stream.specs.Buffering.{Buffered, bufferedOf}
-use Rattle.stream.specs.Keeping.{restOf, keptOf}
-use Rattle.rounds.specs.Rounds.{Stand, standing, wantsBy, needsBytes, followedOf, roundBy, roundOf}
+use Rattle.buffers.specs.Keeping.{restOf, keptOf}
+use Rattle.standing.specs.Standing.{Stand, standing}
+use Rattle.rounds.specs.Rounds.{wantsBy, needsBytes, followedOf, roundBy, roundOf}
 
 -- what is equal has equal parts
 pub stand-parts : {r : Run} {input output : List ℕ} {s : Stand} → standing r input output ≡ s

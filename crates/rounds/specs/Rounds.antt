@@ -1,32 +1,15 @@
--- A run of `follow` between two calls of the system, and what it writes where its reads give these pieces. Assumes nothing.
-use mathlib.Core.Bool.{Bool, true, false, cond}
-use mathlib.Core.List.{List, [], _∷_, _++_}
-use Prim.Native.Nat.{ℕ, zero, suc, _+_}
-use lib.Dec.{eqb}
-use lib.ListN.{length, take, drop}
-use Rattle.lines.specs.Lines.{headerOf, putAt, placeAfter}
-use Rattle.follower.specs.declared.Progress.{Progress}
-use Rattle.follower.specs.declared.Progress.the-variants.{Went, More, Done, Refused}
-use Rattle.follower.specs.Following.{atBegin}
-use Rattle.rounds.specs.declared.Run.{Run}
-use Rattle.rounds.specs.declared.Wants.{Wants}
-use Rattle.rounds.specs.declared.Wants.the-variants.{Read, Write, End}
+-- A round of a run of `follow`: what it does with the bytes that the input buffer holds. Assumes nothing.
+use mathlib.Core.Bool.{Bool, true, false}
+use Prim.Native.Nat.{ℕ}
+use lib.ListN.{length, take}
+use Rattle.advances.specs.declared.Progress.{Progress}
+use Rattle.advances.specs.declared.Progress.the-variants.{Went, More, Done, Refused}
+use Rattle.buffers.specs.Keeping.{restOf, keptOf}
+use Rattle.standing.specs.declared.Run.{Run}
+use Rattle.standing.specs.declared.Wants.{Wants}
+use Rattle.standing.specs.declared.Wants.the-variants.{Read, Write, End}
+use Rattle.standing.specs.Standing.{Stand}
 use Rattle.stream.specs.Buffering.{Buffered, bufferedOf}
-use Rattle.stream.specs.Keeping.{restOf, keptOf}
-
--- where a run stands, with its two buffers
-pub record Stand : Type 0 where
-  pub run : Run
-  pub input : List ℕ
-  pub output : List ℕ
-
-abbrev pub standing : Run → List ℕ → List ℕ → Stand
-standing r input output = record { run = r; input = input; output = output }
-
--- before the first read: nothing is there but the header, in the output buffer
-abbrev pub begunOf : List ℕ → Run
-begunOf output =
-    record { follower = atBegin; from = 0; filled = 0; ended = false; at = placeAfter output 0 headerOf; wants = Read }
 
 -- what is needed after a round
 abbrev pub wantsBy : Progress → Wants
@@ -74,19 +57,3 @@ roundBy false s b = record { run = runAfter s b (b .answer .next) (filledOf s); 
 -- A ROUND
 unfoldable pub roundOf : Stand → Stand
 roundOf s = roundBy (needsBytes (followedOf s .answer .progress)) s (followedOf s)
-
--- after a read that put so many bytes behind those that are kept; none: the recording is over
-abbrev pub readOf : Run → List ℕ → ℕ → Run
-readOf r input more =
-    record {
-      follower = r .follower;
-      from = r .from;
-      filled = length (take (r .filled + more) input);
-      ended = eqb more 0;
-      at = r .at;
-      wants = r .wants;
-    }
-
--- after the output was written
-abbrev pub writtenOf : Run → Run
-writtenOf r = record { follower = r .follower; from = r .from; filled = r .filled; ended = r .ended; at = 0; wants = r .wants }

@@ -1,5 +1,5 @@
 -- Step 3: who asks and where, seen by one station. Assumes nothing.
-use mathlib.Core.Path.{_≡_, refl, sym, _∙_}
+use mathlib.Core.Path.{_≡_, refl, sym, ap, _∙_}
 use mathlib.Core.Bool.{Bool, true, false}
 use mathlib.Core.List.{List, [], _∷_}
 use Prim.Native.Nat.{ℕ, zero, suc, _+_, _-_, _≤_, _<_}
@@ -28,10 +28,10 @@ module _ (pick : ℕ → ℕ) (k : ℕ) where
     where
       go : of k (pickedIn pick j l) ≡ onlyIf (eqb (pick k) j) (of k l) → (b : Bool) → eqb (m .station) k ≡ b → (c : Bool) → eqb (pick (m .station)) j ≡ c
           → of k (keepIf (eqb (pick (m .station)) j) m (pickedIn pick j l)) ≡ onlyIf (eqb (pick k) j) (keepIf (eqb (m .station) k) m (of k l))
-      go ih true e true f = let s : m .station ≡ k = eqb-true (m .station) k e in cc
-      go ih true e false f = let s : m .station ≡ k = eqb-true (m .station) k e in cc
-      go ih false e true f = cc
-      go ih false e false f = cc
+      go ih true e true f = let g : eqb (pick k) j ≡ true = rw (eqb-true (m .station) k e) at f in rw (f, e, g) (ap (λ (z : List Message). m ∷ z) (rw g at ih))
+      go ih true e false f = let g : eqb (pick k) j ≡ false = rw (eqb-true (m .station) k e) at f in rw (f, e, g) (rw g at ih)
+      go ih false e true f = rw (f, e) ih
+      go ih false e false f = rw (f, e) ih
 
   -- past the pick's minislot
   asking-none : (l : List Message) (n j : ℕ) → pick k < j → (i : ℕ) → seen (of k) (askingRow pick l n j) i ≡ []

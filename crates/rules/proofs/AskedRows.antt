@@ -7,7 +7,7 @@ use native.Mathlib.Omega.{arith}
 use lib.ListN.{length}
 use Rattle.rules.proofs.QueueViews.{place-map}
 use Rattle.rules.proofs.Census.{hearing-eq, gather-of}
-use Rattle.minislot.specs.Row.{weight}
+use Rattle.rows.specs.Row.{weight}
 use Rattle.minislot.specs.declared.Feedback.{Feedback}
 use Rattle.rules.proofs.Clauses.{read}
 use Rattle.rules.proofs.Relation.{Agrees, askedOf}

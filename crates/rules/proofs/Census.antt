@@ -7,20 +7,16 @@ use Prim.Native.Nat.{ℕ, zero, suc, _+_, _-_, _≤_, _<_}
 use native.Mathlib.Omega.{arith}
 use native.Mathlib.Decide.{decLt}
 use mathlib.Core.Logic.{by-cases, _≢_}
-use lib.ListN.{length}
+use lib.ListN.{length, drop}
 use Rattle.rules.proofs.Newcomers.{ofBy-append}
 use Rattle.rules.proofs.Clauses.{hearing}
 use Rattle.rules.proofs.Shared.{collect, gather}
-use Rattle.rules.proofs.Views.{Sender, eqb-self}
+use Rattle.rules.proofs.Views.{Sender, eqb-self, nil-cons}
 use Rattle.listlaws.specs.Lists.{keepIf, onlyIf}
 use Rattle.listlaws.proofs.Totals.{total, total-cong}
 use Rattle.rules.specs.Messages.{ofBy}
 use borrow.Author.Tests.{eqb-true, ne-eqb, eqb-false}
 use lib.Dec.{eqb}
-
--- ⊥ from lists of two shapes
-nil-cons {ℓ} : {A : Type ℓ} {x : A} {l : List A} → _≡_ {A = List A} [] (x ∷ l) → ⊥
-nil-cons e = let z : _≡_ {A = ℕ} 0 1 = cc in omega arith
 
 abbrev keyed : ℕ → List Sender → List Sender
 keyed k l = ofBy (λ s. s .position) k l
@@ -28,14 +24,19 @@ keyed k l = ofBy (λ s. s .position) k l
 own-first : (x : Sender) (l : List Sender) → keyed (x .position) (x ∷ l) ≡ x ∷ keyed (x .position) l
 own-first x l = rw (eqb-self (x .position))
 
--- a lone entry and a crowd differ at some key
+-- a lone entry and a crowd differ at some key: at the second's own, or at the third's
 lone-crowd : (x y z : Sender) (l : List Sender) → ((k : ℕ) → keyed k (x ∷ []) ≡ keyed k (y ∷ z ∷ l)) → ⊥
-lone-crowd x y z l h = go (eqb (x .position) (y .position)) refl (eqb (y .position) (z .position)) refl
+lone-crowd x y z l h = go (eqb (x .position) (y .position)) refl (h (y .position) ∙ own-first y (z ∷ l))
   where
-    go : (b : Bool) → eqb (x .position) (y .position) ≡ b → (c : Bool) → eqb (y .position) (z .position) ≡ c → ⊥
-    go false e c f = let w : _≡_ {A = ℕ} 0 1 = cc (h (y .position), eqb-self (y .position)) in omega arith
-    go true e true f = let w : _≡_ {A = ℕ} 0 1 = cc (h (z .position), eqb-self (z .position), eqb-true (x .position) (y .position) e) in omega arith
-    go true e false f = let w : _≡_ {A = ℕ} 0 1 = cc (h (z .position), eqb-self (z .position), eqb-true (x .position) (y .position) e) in omega arith
+    go : (b : Bool) → eqb (x .position) (y .position) ≡ b → keepIf b x [] ≡ y ∷ keyed (y .position) (z ∷ l) → ⊥
+    go false e q = nil-cons q
+    go true e q = third (eqb (z .position) (y .position)) refl (ap (λ (s : List Sender). drop 1 s) q)
+      where
+        third : (c : Bool) → eqb (z .position) (y .position) ≡ c → [] ≡ keepIf c z (keyed (y .position) l) → ⊥
+        third true f r = nil-cons r
+        third false f r =
+            let w : y .position ≢ z .position = (λ s. eqb-false (z .position) (y .position) f (sym s)) in
+            nil-cons (rw (eqb-true (x .position) (y .position) e, ne-eqb (y .position) (z .position) w, eqb-self (z .position)) at (h (z .position)))
 
 pub hearing-eq : (index : ℕ → ℕ) (a b : List Sender) → ((k : ℕ) → keyed k a ≡ keyed k b) → hearing index a ≡ hearing index b
 hearing-eq index [] [] h = refl
@@ -44,8 +45,8 @@ hearing-eq index (x ∷ []) [] h = absurd (nil-cons (sym (h (x .position)) ∙ o
 hearing-eq index (x ∷ []) (y ∷ []) h = go (eqb (x .position) (y .position)) refl
   where
     go : (b : Bool) → eqb (x .position) (y .position) ≡ b → hearing index (x ∷ []) ≡ hearing index (y ∷ [])
-    go true e = let w : x ≡ y = cc (h (y .position), eqb-self (y .position)) in rw w
-    go false e = cc (h (y .position), eqb-self (y .position))
+    go true e = ap (hearing index) (rw (e, eqb-self (y .position)) at (h (y .position)))
+    go false e = absurd (nil-cons (rw (e, eqb-self (y .position)) at (h (y .position))))
 hearing-eq index (x ∷ []) (y ∷ z ∷ b) h = absurd (lone-crowd x y z b h)
 hearing-eq index (x ∷ y ∷ a) [] h = absurd (nil-cons (sym (h (x .position)) ∙ own-first x (y ∷ a)))
 hearing-eq index (x ∷ y ∷ a) (z ∷ []) h = absurd (lone-crowd z x y a (λ k. sym (h k)))

@@ -3,7 +3,7 @@ pub mod QueueingLaws
 pub mod Settled
 pub mod Refusals
 pub mod LimitLaws
--- DEMAND 3, from the lists up
+-- DEMAND 3: the plain channel beside the shared table, call by call, and a record beside the table, slot by slot
 pub mod Views
 pub mod Clauses
 pub mod Shared
@@ -18,39 +18,15 @@ pub mod OneStation
 pub mod Census
 pub mod AskedRows
 pub mod DataSenders
-pub mod Searching
 pub mod SlotStep
 pub mod CallStep
-pub mod ListStep
-pub mod Histories
-pub mod Mixing
-pub mod Requested
 pub mod ClauseLaws
 pub mod WireRows
 pub mod OwnHears
 pub mod Walking
-pub mod EmbodySlot
-pub mod Embody
-pub mod SoundTests
-pub mod EmbodyCalls
-pub mod Sounding
-pub mod SoundLists
-pub mod SoundMeans
-pub mod SoundKept
-pub mod Starts
-pub mod Following
-pub mod Undelivered
-pub mod Theorem
-pub mod Worked
-pub mod Transmission
-pub mod Gathering
+-- What the code goes by.
 pub mod StationListens
 pub mod RowReads
 pub mod ListeningLaws
-pub mod ChangesHold
-pub mod EdgesAnyHold
-pub mod EdgesHold
 pub mod StationLaws
-pub mod ChannelLaws
-pub mod NeverSeven
 pub mod NumbersHold

@@ -7,8 +7,8 @@ use mathlib.Core.Logic.{_≢_}
 use Prim.Native.Nat.{ℕ}
 use lib.Dec.{eqb}
 use borrow.Author.Tests.{le-leb, ne-eqb}
-use Rattle.minislot.specs.Row.{readings, firstNumber, hasMinislots, rowOf}
-use Rattle.minislot.proofs.Answers.{number-zero, number-short, number-whole}
+use Rattle.rows.specs.Row.{readings, firstNumber, hasMinislots, rowOf}
+use Rattle.rows.proofs.Answers.{number-zero, number-short, number-whole}
 use Rattle.rules.specs.declared.Counters.{Counters}
 use Rattle.rules.specs.Limits.{withinLimits}
 use Rattle.rules.specs.Hearing.{feedbackOf}

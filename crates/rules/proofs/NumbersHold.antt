@@ -1,9 +1,9 @@
--- Each call's definition answers the number of its own list and the values that specs/Answered tells with it: what goes by the number goes by it alone.
+-- The definition of each call of a listener or a station answers the number of its own list and the values that specs/Answered tells with it: what goes by the number goes by it alone.
 -- Assumes nothing.
 use mathlib.Core.Path.{_≡_, refl, ap, _∙_}
 use mathlib.Core.List.{List}
 use Prim.Native.Nat.{ℕ}
-use Rattle.minislot.specs.Row.{readings, feedbacks}
+use Rattle.rows.specs.Row.{readings, feedbacks}
 use Rattle.rules.specs.declared.Counters.{Counters}
 use Rattle.rules.specs.declared.Started.{Started}
 use Rattle.rules.specs.declared.Listened.{Listened}
@@ -16,13 +16,10 @@ use Rattle.rules.specs.Listening.{refusedListening, listened, listenNumb
 use Rattle.rules.specs.Outcome.{outcomeBy}
 use Rattle.rules.specs.Stepping.{stepOf}
 use Rattle.rules.specs.StationCalls.{refusedStart, stationStartNumberOf, stationStartOf, refusedOffer, offerNumberOf, offerOf, refusedSlot, slotNumberOf, slotOf}
-use Rattle.rules.specs.ChannelCalls.{Channel, ChannelResult, ChannelStarted, refusedBeginning, channelStartNumberOf, channelStartOf, refused, channelOfferNumberOf, channelOfferOf, channelSlotNumberOf, channelSlotOf, channelCall}
-use Rattle.rules.specs.Calls.{Call, Offer, Slot}
 use Rattle.rules.specs.Recorded.{stretch, listeningAtOf, slotAtOf}
-use Rattle.rules.specs.Numbers.{Told, startTold, listenTold, offerTold, slotTold, callTold}
-use Rattle.rules.specs.Answered.{startToldOf, listenToldOf, stationStartToldOf, offerToldOf, slotToldOf, channelStartToldOf, channelOfferToldOf, channelSlotToldOf, channelToldOf, listenAtToldOf, slotAtToldOf}
+use Rattle.rules.specs.Numbers.{Told, startTold, listenTold, offerTold, slotTold}
+use Rattle.rules.specs.Answered.{startToldOf, listenToldOf, stationStartToldOf, offerToldOf, slotToldOf, listenAtToldOf, slotAtToldOf}
 use Rattle.rules.proofs.Refusals.{by-ap}
-use lib.ListN.{length}
 
 -- ---- STARTING
 
@@ -33,11 +30,6 @@ start-told m n = by-ap (λ (r : Started). startTold (r .answer)) (startNumberOf 
 pub station-start-told : (m n index : ℕ) → startTold (stationStartOf m n index .answer) ≡ stationStartToldOf m n index
 unfolding stationStartOf stationStartToldOf
 station-start-told m n index = by-ap (λ (r : StationStarted). startTold (r .answer)) (stationStartNumberOf m n index) refusedStart _
-
-pub channel-start-told : (ch : Channel) (m n : ℕ) (indexes : List ℕ) → startTold (channelStartOf ch m n indexes .answer) ≡ channelStartToldOf ch m n indexes
-unfolding channelStartOf channelStartToldOf
-channel-start-told ch m n indexes =
-    by-ap (λ (r : ChannelStarted). startTold (r .answer)) (channelStartNumberOf (length (ch .stations)) m n indexes) (refusedBeginning ch) _
 
 -- ---- LISTENING, and on a stretch of a recording
 
@@ -62,10 +54,3 @@ slot-told s words counts pick = by-ap (λ (r : StationSlot). slotTold (r .answer
 pub slot-at-told : (s : Station) (start : ℕ) (words counts : List ℕ) (pick : ℕ) → slotTold (slotAtOf s start words counts pick .answer) ≡ slotAtToldOf s start words counts pick
 unfolding slotAtOf slotAtToldOf
 slot-at-told s start words counts pick = slot-told s (stretch (s .counters .minislots) start words) (stretch (s .counters .minislots) start counts) pick
-
--- ---- THE CHANNEL'S CALLS
-
-pub channel-told : (ch : Channel) (c : Call) → callTold (channelCall ch c .answer) ≡ channelToldOf ch c
-unfolding channelOfferOf channelOfferToldOf channelSlotOf channelSlotToldOf
-channel-told ch (Offer index bytes) = by-ap (λ (r : ChannelResult). callTold (r .answer)) (channelOfferNumberOf ch index bytes) (refused ch) _
-channel-told ch (Slot picks) = by-ap (λ (r : ChannelResult). callTold (r .answer)) (channelSlotNumberOf ch picks) (refused ch) _

@@ -14,7 +14,7 @@ use Rattle.pattern.specs.Ones.{containsOnes}
 use Rattle.pattern.specs.Patterns.{wordOf}
 use Rattle.pattern.proofs.Ones.{or-contains, or-assoc}
 use Rattle.pattern.proofs.Patterns.{pattern-below}
-use Rattle.minislot.specs.Together.{together}
+use Rattle.requests.specs.Together.{together}
 use Rattle.listlaws.specs.Lists.{keepIf, onlyIf}
 use Rattle.rules.specs.Messages.{ofBy}
 use Rattle.rules.specs.Hearing.{wordsOf}

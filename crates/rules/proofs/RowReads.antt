@@ -12,9 +12,9 @@ use Rattle.minislot.specs.declared.Feedback.the-variants.{Empty}
 use Rattle.minislot.specs.declared.Reading.{Reading}
 use Rattle.minislot.specs.declared.Reading.the-variants.{Heard, Refused}
 use Rattle.minislot.specs.Reading.{readingOf}
-use Rattle.minislot.specs.Row.{readings, feedbacks, firstNumber, weight, hasMinislots, rowOf}
-use Rattle.minislot.proofs.Row.{row-tests}
-use Rattle.minislot.proofs.Answers.{number-zero, number-short, number-whole, weight-heard, array-heard}
+use Rattle.rows.specs.Row.{readings, feedbacks, firstNumber, weight, hasMinislots, rowOf}
+use Rattle.rows.proofs.Row.{row-tests}
+use Rattle.rows.proofs.Answers.{number-zero, number-short, number-whole, weight-heard, array-heard}
 use Rattle.rules.specs.Hearing.{Counted, feedbackOf, ReadRow}
 
 -- every Single that is read counts one slot or more

@@ -7,7 +7,7 @@ use Prim.Native.Nat.{ℕ, zero, suc, _+_}
 use lib.Dec.{eqb}
 use lib.ListN.{length, getD}
 use Rattle.minislot.specs.declared.Feedback.{Feedback}
-use Rattle.minislot.specs.Row.{weight}
+use Rattle.rows.specs.Row.{weight}
 use Rattle.message.specs.Message.{fitsMessage, slotsFor}
 use Rattle.rules.specs.declared.Places.{Places}
 use Rattle.listlaws.specs.Lists.{onlyIf}

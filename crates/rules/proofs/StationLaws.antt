@@ -12,8 +12,8 @@ use lib.ListN.{length, getD, take}
 use borrow.Author.Tests.{eq-eqb, ne-eqb}
 use Rattle.minislot.specs.declared.Feedback.{Feedback}
 use Rattle.minislot.specs.declared.Feedback.the-variants.{Empty, Collide}
-use Rattle.minislot.specs.Row.{readings, firstNumber, hasMinislots, rowOf}
-use Rattle.minislot.proofs.Answers.{first-small, number-zero, number-short, number-whole}
+use Rattle.rows.specs.Row.{readings, firstNumber, hasMinislots, rowOf}
+use Rattle.rows.proofs.Answers.{first-small, number-zero, number-short, number-whole}
 use Rattle.rules.specs.declared.Counters.{Counters}
 use Rattle.rules.specs.declared.Places.{Places}
 use Rattle.rules.specs.declared.Station.{Station}

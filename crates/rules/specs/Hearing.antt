@@ -8,7 +8,7 @@ use Rattle.minislot.specs.declared.Minislot.{Minislot}
 use Rattle.minislot.specs.declared.Feedback.{Feedback}
 use Rattle.minislot.specs.declared.Feedback.the-variants.{Empty, Single, Collide}
 use Rattle.minislot.specs.declared.RowReading.{RowReading}
-use Rattle.minislot.specs.Row.{weight, feedbackIn}
+use Rattle.rows.specs.Row.{weight, feedbackIn}
 
 abbrev pub wordsOf : List Minislot → List ℕ
 wordsOf row = map (λ (s : Minislot). s .word) row

@@ -1,6 +1,8 @@
 -- The rules of paper 01 as definitions. The order of checking: Refusing. The counters' rules: Limits, Starting, Hearing, Queueing (step 1),
 -- Turns (step 2), Falling (steps 4 and 5), Listening. The station's rules: StationLimits, Landing (step 1), OwnHearing (refusal 12),
 -- Requesting (step 3), Serving (steps 4 and 5), Outcome and Stepping (a slot's outcome and one station's step by it), StationCalls.
+-- The calls of a list, and answers as the paper's numbers: Calls, Numbers, Answered; rows of a recording: Recorded. The plain channel:
+-- Messages, Plain, Positions.
 pub mod Refusing
 pub mod Limits
 pub mod Starting
@@ -17,19 +19,10 @@ pub mod Serving
 pub mod Outcome
 pub mod Stepping
 pub mod StationCalls
-pub mod Soundness
 pub mod Calls
 pub mod Numbers
-pub mod ChannelCalls
-pub mod SoundMeaning
 pub mod Messages
 pub mod Plain
 pub mod Positions
-pub mod Demand3
-pub mod RowAccount
 pub mod Recorded
 pub mod Answered
-pub mod Changes
-pub mod EdgesAny
-pub mod Edges
-pub mod Room

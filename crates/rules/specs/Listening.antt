@@ -6,7 +6,7 @@ use Prim.Native.Nat.{ℕ}
 use lib.Dec.{eqb}
 use lib.ListN.{length}
 use Rattle.minislot.specs.declared.Feedback.{Feedback}
-use Rattle.minislot.specs.Row.{readings, firstNumber, feedbacks}
+use Rattle.rows.specs.Row.{readings, firstNumber, feedbacks}
 use Rattle.rules.specs.declared.Counters.{Counters}
 use Rattle.rules.specs.declared.Listened.{Listened}
 use Rattle.rules.specs.declared.ListenAnswer.the-variants.{Went, Refused}

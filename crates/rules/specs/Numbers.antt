@@ -1,5 +1,5 @@
 -- The paper's number and values of each answer, by its cases (paper 01, "Operations and their numbers"). Which of them a call answers:
--- specs/Answered. Assumes nothing.
+-- specs/Answered, and for a channel that of crate `channel_rules`. Assumes nothing.
 use mathlib.Core.List.{List, [], _∷_}
 use Prim.Native.Nat.{ℕ}
 use Rattle.rules.specs.declared.StartAnswer.{StartAnswer}

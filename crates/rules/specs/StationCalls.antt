@@ -6,7 +6,7 @@ use Prim.Native.Nat.{ℕ}
 use lib.Dec.{leb}
 use Rattle.message.specs.Message.{fitsMessage, slotsFor}
 use Rattle.minislot.specs.declared.Feedback.{Feedback}
-use Rattle.minislot.specs.Row.{readings, firstNumber, feedbacks}
+use Rattle.rows.specs.Row.{readings, firstNumber, feedbacks}
 use Rattle.rules.specs.declared.Station.{Station}
 use Rattle.rules.specs.declared.StationStarted.{StationStarted}
 use Rattle.rules.specs.declared.StationOffered.{StationOffered}

@@ -1,103 +1,188 @@
-// A station's record, a slot's turn and answers as comma-separated lines, and records out of the lines of cases, for the programs that
-// check by running.
+// Stations' records, wires and answers as numbers and as comma-separated lines, and records out of the lines of cases, for the programs
+// that check by running.
+//
+// A record's numbers are m, n, the next group, H, N, eight RQ, eight Open marks (1 for yes), the index, and then the condition: 1 free; 2
+// fresh and its total; 3 asked, group, minislot, total; 4 resolving, group, place, total; 5 urgent and its place; 6 long, first, left,
+// total. Turns are numbered 1 urgent, 2 long, 3 resolve, 4 open.
+use rules::Answer;
 use rules::Condition;
 use rules::Counters;
 use rules::StartAnswer;
 use rules::Station;
 use rules::Turn;
+use rules::WireRow;
 use runs_cases::Group;
 use runs_cases::group_at;
 use runs_cases::number;
 use runs_cases::number8;
 use runs_cases::number16;
-use runs_cases::word_at;
-use runs_text::field8;
-use runs_text::field16;
-use runs_text::refused_line;
+use runs_cases::which;
+use runs_text::form;
 use runs_text::text;
+use runs_text::worded;
+ghost use mathlib.Core.Path.{_≡_};
+ghost use Prim.Native.Nat.{_≤_};
+ghost use lib.ListN.{length};
 
-fn mark(opened: bool) {
-    if opened {
-        text(b",yes");
-    } else {
-        text(b",no");
+// A record's numbers, and how many there are.
+pub struct Numbers {
+    pub all: [u64; 26],
+    pub count: usize,
+}
+
+// ---- as numbers
+
+pub fn turn_number(t: Turn) -> u64 {
+    match t {
+        Turn::Urgent => 1,
+        Turn::Long => 2,
+        Turn::Resolve => 3,
+        Turn::Open => 4,
     }
 }
 
-fn resolution_text(resolution: [u16; 8]) {
-    let mut g: usize = 0;
-    while g < 8 {
-        field16(resolution[g]);
-        g += 1;
+// The answer to a call on a channel. Refused: 1 and the number. Taken: 2 and the slots. Went: 3, the turn, data senders, index, segment,
+// delivered.
+pub fn told(answer: Answer) -> [u64; 6]
+    ensures { λ r. ⌜ length r ≡ 6 ⌝ }
+{
+    match answer {
+        Answer::Refused(number) => [1, number as u64, 0, 0, 0, 0],
+        Answer::Taken(total) => [2, total as u64, 0, 0, 0, 0],
+        Answer::Went {
+            turn,
+            senders,
+            index,
+            segment,
+            delivered,
+        } => [
+            3,
+            turn_number(turn),
+            senders as u64,
+            index as u64,
+            segment as u64,
+            delivered as u64,
+        ],
     }
 }
 
-fn opened_text(opened: [bool; 8]) {
-    let mut g: usize = 0;
-    while g < 8 {
-        mark(opened[g]);
-        g += 1;
-    }
-}
-
-fn three(a: u8, b: u16, c: u8) {
-    field8(a);
-    field16(b);
-    field8(c);
-}
-
-fn condition_text(k: Condition) {
+fn condition_numbers(k: Condition) -> [u64; 4] {
     match k {
-        Condition::Free => text(b",free"),
-        Condition::Fresh { total } => {
-            text(b",fresh");
-            field8(total);
-        }
+        Condition::Free => [1, 0, 0, 0],
+        Condition::Fresh { total } => [2, total as u64, 0, 0],
         Condition::Asked {
             group,
             minislot,
             total,
-        } => {
-            text(b",asked");
-            three(group, minislot as u16, total);
-        }
+        } => [3, group as u64, minislot as u64, total as u64],
         Condition::Resolving {
             group,
             place,
             total,
-        } => {
-            text(b",resolving");
-            three(group, place, total);
-        }
-        Condition::Urgent { place } => {
-            text(b",urgent");
-            field16(place);
-        }
-        Condition::Long { first, left, total } => {
-            text(b",long");
-            field16(first);
-            field8(left);
-            field8(total);
-        }
+        } => [4, group as u64, place as u64, total as u64],
+        Condition::Urgent { place } => [5, place as u64, 0, 0],
+        Condition::Long { first, left, total } => [6, first as u64, left as u64, total as u64],
     }
 }
 
-pub fn record_line(s: Station) {
-    let c = s.counters;
-    let k = s.condition;
+// How many numbers a record has with a condition of this number.
+fn count_with(condition: u64) -> usize
+    ensures { λ r. ⌜ r ≤ 26 ⌝ }
+{
+    match condition {
+        1 => 23,
+        2 => 24,
+        5 => 24,
+        _ => 26,
+    }
+}
+
+// The numbers of eight RQ and eight Open marks, where a record has them.
+fn queue_numbers(resolution: [u16; 8], opened: [bool; 8]) -> [u64; 26]
+    ensures { λ r. ⌜ length r ≡ 26 ⌝ }
+{
+    let mut all = [0u64; 26];
+    let mut g: usize = 0;
+    while g < 8 {
+        all[g + 5] = resolution[g] as u64;
+        all[g + 13] = opened[g] as u64;
+        g += 1;
+    }
+    all
+}
+
+// The counters' numbers, the first 21 of a record.
+pub fn counters_numbers(c: Counters) -> [u64; 26]
+    ensures { λ r. ⌜ length r ≡ 26 ⌝ }
+{
     let resolution = c.resolution;
     let opened = c.opened;
-    text(b"record");
-    field8(c.minislots);
-    field8(c.groups);
-    field8(c.next);
-    field16(c.urgent);
-    field16(c.long);
-    resolution_text(resolution);
-    opened_text(opened);
-    field16(s.index);
-    condition_text(k);
+    let mut all = queue_numbers(resolution, opened);
+    all[0] = c.minislots as u64;
+    all[1] = c.groups as u64;
+    all[2] = c.next as u64;
+    all[3] = c.urgent as u64;
+    all[4] = c.long as u64;
+    all
+}
+
+pub fn record_numbers(s: Station) -> Numbers
+    ensures { λ r. ⌜ (length (r .all) ≡ 26) × (r .count ≤ 26) ⌝ }
+{
+    let c = s.counters;
+    let k = s.condition;
+    let condition = condition_numbers(k);
+    let mut all = counters_numbers(c);
+    all[21] = s.index as u64;
+    let mut i: usize = 0;
+    while i < 4 {
+        all[i + 22] = condition[i];
+        i += 1;
+    }
+    let count = count_with(condition[0]);
+    Numbers { all, count }
+}
+
+// The word and the count of each minislot of a wire, group after group.
+pub fn wire_numbers(wire: [WireRow; 8]) -> [u64; 128]
+    ensures { λ r. ⌜ length r ≡ 128 ⌝ }
+{
+    let mut all = [0u64; 128];
+    let mut i: usize = 0;
+    while i < 64 {
+        let row = wire[i / 8];
+        let minislots = row.minislots;
+        let x = minislots[i % 8];
+        all[2 * i] = x.word as u64;
+        all[2 * i + 1] = x.count as u64;
+        i += 1;
+    }
+    all
+}
+
+// ---- as lines
+
+pub fn record_line(s: Station) {
+    let r = record_numbers(s);
+    let all = r.all;
+    let count = r.count;
+    worded(
+        b"record,#,#,#,#,#,#,#,#,#,#,#,#,#,?,?,?,?,?,?,?,?,#,@",
+        b"free fresh asked resolving urgent long ",
+        &all[0..count],
+    );
     text(b"\n");
+}
+
+pub fn refused_line(number: u8) {
+    let numbers = [number as u64];
+    form(b"refused,#\n", &numbers);
+}
+
+// A message that was taken, with its slots.
+pub fn taken_line(total: u8) {
+    let numbers = [total as u64];
+    form(b"taken,#\n", &numbers);
 }
 
 // The answer to a start.
@@ -108,29 +193,33 @@ pub fn start_line(answer: StartAnswer) {
     }
 }
 
-// A message that was taken, with its slots.
-pub fn taken_line(total: u8) {
-    text(b"taken");
-    field8(total);
+// A slot that went through: its turn's number, and the other numbers of the answer.
+pub fn went_line(numbers: &[u64]) {
+    worded(b"went,@", b"urgent long resolve open ", numbers);
     text(b"\n");
 }
 
-pub fn turn_text(t: Turn) {
-    match t {
-        Turn::Urgent => text(b",urgent"),
-        Turn::Long => text(b",long"),
-        Turn::Resolve => text(b",resolve"),
-        Turn::Open => text(b",open"),
+// The answer to a call on a channel.
+pub fn told_line(told: [u64; 6]) {
+    if told[0] == 3 {
+        went_line(&told[1..6]);
+    } else {
+        worded(b"@,#\n", b"refused taken ", &told[0..2]);
     }
 }
 
-// Counters out of a group: m, n, the next group, H, N, the first two RQ and the first Open mark (1 for yes).
+// ---- out of the lines of cases
+
+// Counters out of the first 21 numbers of a group.
 pub fn counters_of(g: Group) -> Counters {
     let mut resolution = [0u16; 8];
-    resolution[0] = number16(g, 6);
-    resolution[1] = number16(g, 7);
     let mut opened = [true; 8];
-    opened[0] = number(g, 8) == 1;
+    let mut i: usize = 0;
+    while i < 8 {
+        resolution[i] = number16(g, i + 6);
+        opened[i] = number(g, i + 14) == 1;
+        i += 1;
+    }
     Counters {
         minislots: number8(g, 1),
         groups: number8(g, 2),
@@ -142,46 +231,36 @@ pub fn counters_of(g: Group) -> Counters {
     }
 }
 
-// A condition that waits for or in a group, free if the word is neither of the two.
-fn requesting(line: &[u8], at: usize, g: Group) -> Condition {
-    let group = number8(g, 1);
+// A condition out of its number and those that follow it.
+fn condition(number: u64, g: Group) -> Condition {
+    let first = number8(g, 1);
+    let place = number16(g, 1);
+    let second = number8(g, 2);
     let total = number8(g, 3);
-    if word_at(line, at, b"asked") {
-        return Condition::Asked {
-            group,
-            minislot: number8(g, 2),
+    match number {
+        2 => Condition::Fresh { total: first },
+        3 => Condition::Asked {
+            group: first,
+            minislot: second,
             total,
-        };
-    }
-    if word_at(line, at, b"resolving") {
-        return Condition::Resolving {
-            group,
+        },
+        4 => Condition::Resolving {
+            group: first,
             place: number16(g, 2),
             total,
-        };
+        },
+        5 => Condition::Urgent { place },
+        6 => Condition::Long {
+            first: place,
+            left: second,
+            total,
+        },
+        _ => Condition::Free,
     }
-    Condition::Free
 }
 
 // The condition that stands at a place of a line.
 pub fn condition_of(line: &[u8], at: usize) -> Condition {
-    let g = group_at(line, at);
-    if word_at(line, at, b"fresh") {
-        return Condition::Fresh {
-            total: number8(g, 1),
-        };
-    }
-    if word_at(line, at, b"urgent") {
-        return Condition::Urgent {
-            place: number16(g, 1),
-        };
-    }
-    if word_at(line, at, b"long") {
-        return Condition::Long {
-            first: number16(g, 1),
-            left: number8(g, 2),
-            total: number8(g, 3),
-        };
-    }
-    requesting(line, at, g)
+    let number = which(line, at, b"free fresh asked resolving urgent long ");
+    condition(number, group_at(line, at))
 }

@@ -1,10 +1,11 @@
-// Tables and wires by value for the programs that check by running: none in use, and one with something altered.
-use conditions::limits::no_station;
+// Tables and wires by value for the programs that check by running: none in use, one with something altered, and one after a call.
+use conditions::no_station;
+use local_channel::LocalCalled;
 use local_channel::LocalChannel;
+use local_channel::LocalStarted;
 use minislot::Minislot;
 use rules::Station;
 use rules::WireRow;
-ghost use mathlib.Core.Path.{_≡_};
 ghost use Prim.Native.Nat.{_≤_};
 
 pub fn least(a: usize, b: usize) -> usize
@@ -14,9 +15,7 @@ pub fn least(a: usize, b: usize) -> usize
 }
 
 // A table of so many records that stand for no station, and a silent wire.
-pub fn blank(count: usize) -> LocalChannel
-    ensures { λ r. ⌜ r .count ≡ count ⌝ }
-{
+pub fn blank(count: usize) -> LocalChannel {
     let row = WireRow {
         minislots: [Minislot { word: 0, count: 0 }; 8],
     };
@@ -27,52 +26,68 @@ pub fn blank(count: usize) -> LocalChannel
     }
 }
 
+// ---- with something altered
+
 // The same records, of which another number is lent.
-pub fn with_count(c: LocalChannel, count: usize) -> LocalChannel
-    ensures { λ r. ⌜ r .count ≡ count ⌝ }
-{
-    let stations = c.stations;
-    let wire = c.wire;
-    LocalChannel {
-        stations,
-        count,
-        wire,
-    }
+pub fn with_count(c: LocalChannel, count: usize) -> LocalChannel {
+    let mut c = c;
+    c.count = count;
+    c
 }
 
 // Record k, counted from 0, is this one.
-pub fn with_station(c: LocalChannel, k: usize, s: Station) -> LocalChannel
-    ensures { λ r. ⌜ r .count ≡ c .count ⌝ }
-{
+pub fn with_station(c: LocalChannel, k: usize, s: Station) -> LocalChannel {
+    let mut c = c;
     let mut stations = c.stations;
-    let wire = c.wire;
     if k < 65 {
         stations[k] = s;
     }
-    LocalChannel {
-        stations,
-        count: c.count,
-        wire,
-    }
+    c.stations = stations;
+    c
 }
 
 // Minislot j of group g, both counted from 0, has this word and count.
-pub fn with_minislot(c: LocalChannel, g: usize, j: usize, word: u16, count: u8) -> LocalChannel
-    ensures { λ r. ⌜ r .count ≡ c .count ⌝ }
-{
-    let stations = c.stations;
+pub fn with_minislot(c: LocalChannel, g: usize, j: usize, word: u16, count: u8) -> LocalChannel {
+    let mut c = c;
     let mut wire = c.wire;
-    if g < 8 {
-        let row = wire[g];
-        let mut minislots = row.minislots;
-        if j < 8 {
-            minislots[j] = Minislot { word, count };
-        }
-        wire[g] = WireRow { minislots };
+    let row = wire[g % 8];
+    let mut minislots = row.minislots;
+    minislots[j % 8] = Minislot { word, count };
+    wire[g % 8] = WireRow { minislots };
+    c.wire = wire;
+    c
+}
+
+// ---- after a call
+
+// Station k of a driven channel has this index: they are 14 apart, and the first one is given.
+pub fn index_of(k: usize, first: u8) -> u16 {
+    (k % 65) as u16 * 14 + first as u16
+}
+
+// A driven channel of so many stations.
+pub fn started(count: usize, m: u8, n: u8, first: u8) -> LocalChannel {
+    let mut indexes = [0u16; 65];
+    let mut k: usize = 0;
+    while k < 65 {
+        indexes[k] = index_of(k, first);
+        k += 1;
     }
-    LocalChannel {
-        stations,
-        count: c.count,
-        wire,
-    }
+    let end = least(count, 65);
+    let r = begun(blank(count), m, n, &indexes[0..end]);
+    r.channel
+}
+
+// The next three say nothing of the answer, so that a program that only runs them carries no contract of a channel along.
+
+pub fn begun(c: LocalChannel, m: u8, n: u8, indexes: &[u16]) -> LocalStarted {
+    local_channel::start(c, m, n, indexes)
+}
+
+pub fn offered(c: LocalChannel, index: u16, bytes: usize) -> LocalCalled {
+    local_channel::offer(c, index, bytes)
+}
+
+pub fn slotted(c: LocalChannel, picks: &[u8]) -> LocalCalled {
+    local_channel::slot(c, picks)
 }

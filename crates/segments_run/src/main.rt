@@ -5,13 +5,11 @@
 // first and last byte (0 and 0 of an empty part).
 use libc::STDIN_FILENO;
 use message::SlotTotal;
-use runs_cases::begins;
 use runs_cases::group_at;
-use runs_cases::is_note;
 use runs_cases::line_end;
 use runs_cases::number;
-use runs_text::field;
-use runs_text::field8;
+use runs_cases::which;
+use runs_text::fields;
 use runs_text::text;
 ghost use mathlib.Core.Path.{_≡_};
 ghost use Prim.Native.Nat.{_≤_};
@@ -37,16 +35,15 @@ fn least(a: usize, b: usize) -> usize
     if a < b { a } else { b }
 }
 
+fn two(number: u64, slots: u64) {
+    let numbers = [number, slots];
+    fields(&numbers);
+}
+
 fn slots_text(total: SlotTotal) {
     match total {
-        SlotTotal::Slots(slots) => {
-            field8(0);
-            field8(slots);
-        }
-        SlotTotal::Refused(number) => {
-            field8(number);
-            field8(0);
-        }
+        SlotTotal::Slots(slots) => two(0, slots as u64),
+        SlotTotal::Refused(number) => two(number as u64, 0),
     }
 }
 
@@ -66,27 +63,31 @@ fn last(part: &[u8]) -> u8 {
 
 fn segment_text(message: &[u8], j: usize) {
     let mut number: u8 = 0;
-    let part = message::segment(message, j, &mut number);
-    field8(number);
-    field(part.len() as u64);
-    field8(first(part));
-    field8(last(part));
+    let part = segments::segment(message, j, &mut number);
+    let bytes = part.len();
+    let numbers = [
+        number as u64,
+        bytes as u64,
+        first(part) as u64,
+        last(part) as u64,
+    ];
+    fields(&numbers);
 }
 
 // One line: it is written, and then its answer. A message is the first bytes of the space.
 fn case(line: &[u8], space: &[u8])
     requires { ⌜ length (now space) ≡ 12241 ⌝ }
 {
-    if is_note(line) {
+    let head = group_at(line, 0);
+    let bytes = number(head, 1) as usize;
+    let kind = which(line, 0, b"slots segment ");
+    if kind == 0 {
         return;
     }
     text(line);
-    let head = group_at(line, 0);
-    let bytes = number(head, 1) as usize;
-    if begins(line, b"slots") {
+    if kind == 1 {
         slots_text(message::slots(bytes));
-    }
-    if begins(line, b"segment") {
+    } else {
         let end = least(bytes, MOST);
         segment_text(&space[0..end], number(head, 2) as usize);
     }

@@ -8,14 +8,14 @@ use native.Mathlib.Omega.{arith}
 use lib.Dec.{eqb, ltb}
 use lib.ListN.{length, length-append}
 use borrow.Author.Tests.{lt-ltb}
-use Rattle.minislot.specs.Together.{together}
+use Rattle.requests.specs.Together.{together}
 use Rattle.listlaws.specs.Lists.{onlyIf}
 use Rattle.rules.specs.declared.Sent.{Sent}
 use Rattle.rules.specs.declared.SlotAnswer.{SlotAnswer}
 use Rattle.rules.specs.declared.SlotAnswer.the-variants.{Went, Refused}
 use Rattle.rules.specs.declared.StationSlot.{StationSlot}
-use Rattle.rules.specs.ChannelCalls.{newRow, DataSent, dataIn, dataSent, loneIndex, loneSegment, sentOf}
-use Rattle.rules.proofs.Gathering.{InRow, written, row-more, data-more, lone-index-more, lone-segment-more}
+use Rattle.channel_rules.specs.ChannelCalls.{newRow, DataSent, dataIn, dataSent, loneIndex, loneSegment, sentOf}
+use Rattle.channel_rules.proofs.Gathering.{InRow, written, row-more, data-more, lone-index-more, lone-segment-more}
 use Rattle.sending.specs.Gathered.{silence, oneMore, withData, gathered, gatheredBy}
 
 -- every request stands in one of the eight minislots

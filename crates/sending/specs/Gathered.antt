@@ -4,7 +4,7 @@ use mathlib.Core.Bool.{cond}
 use Prim.Native.Nat.{ℕ, _+_}
 use lib.Dec.{eqb, ltb}
 use lib.ListN.{replicate}
-use Rattle.minislot.specs.Together.{Request, carries, silent, placed}
+use Rattle.requests.specs.Together.{Request, carries, silent, placed}
 use Rattle.rules.specs.declared.Sent.{Sent}
 use Rattle.rules.specs.declared.SlotAnswer.{SlotAnswer}
 use Rattle.rules.specs.declared.SlotAnswer.the-variants.{Went, Refused}

@@ -1,3 +1,1 @@
--- Gathered: what the stations send. Replying: what a slot comes back with.
 pub mod Gathered
-pub mod Replying

@@ -1,32 +1,18 @@
-// What the stations of a channel send in a slot, gathered one station after the other: the group's new row and the data senders; and what
-// the slot then comes back with.
-use calls::CallReply;
-use calls::Judged;
-use calls::refuse;
-use counters::place_of;
+// What the stations of a channel send in a slot, gathered one station after the other: the group's new row and the data senders.
 use minislot::Minislot;
-use minislot::sending::carry;
-use minislot::sending::place;
-use rules::Answer;
+use requesting::total_of;
+use requests::carry;
+use requests::place;
 use rules::Sent;
 use rules::SlotAnswer;
 use rules::Station;
 use rules::StationSlot;
-use rules::Turn;
-use rules::WireRow;
-use steps::requesting::total_of;
 ghost use mathlib.Core.Path.{_≡_};
-ghost use Prim.Native.Nat.{_-_, _≤_};
-ghost use lib.ListN.{set};
-ghost use Rattle.minislot.specs.Together.{placed, carries};
-ghost use Rattle.rules.specs.ChannelCalls.{deliveredNow};
+ghost use Rattle.requests.specs.Together.{placed, carries};
 ghost use Rattle.sending.specs.Gathered.{silence as silenceOf, stationRequest, oneMore, withData, gathered};
-ghost use Rattle.sending.specs.Replying.{replyOf, Answerable};
 
 // The most data senders that are counted.
 const MOST_SENDERS: u8 = 255;
-
-// ---- gathering
 
 // Nobody has sent anything.
 pub fn silence() -> Sent
@@ -107,56 +93,5 @@ pub fn gather(r: StationSlot, sent: Sent) -> Sent
             }
         }
         SlotAnswer::Refused(_) => sent,
-    }
-}
-
-// ---- replying
-
-// The slots delivered as they are sent.
-fn delivered_now(t: Turn, senders: u8) -> u8
-    ensures { λ r. ⌜ r ≡ deliveredNow t senders ⌝ }
-    ensures few { λ r. ⌜ r ≤ senders ⌝ }
-{
-    match t {
-        Turn::Urgent => senders,
-        Turn::Long => senders,
-        Turn::Resolve => 0,
-        Turn::Open => 0,
-    }
-}
-
-// The wire with a group's new row, and as it was for a group beyond the eight.
-fn put_row(wire: [WireRow; 8], group: u8, minislots: [Minislot; 8]) -> [WireRow; 8]
-    ensures { λ r. ⌜ r ≡ set wire (group - 1) (record { minislots = minislots }) ⌝ }
-{
-    let g = place_of(group);
-    if 8 <= g {
-        return wire;
-    }
-    let mut after = wire;
-    after[g] = WireRow { minislots };
-    after
-}
-
-// The reply of a slot that was judged, and whose stations have sent this.
-pub fn reply(judged: Judged, wire: [WireRow; 8], sent: Sent) -> CallReply
-    requires { ⌜ Answerable judged sent ⌝ }
-    ensures { λ r. ⌜ r ≡ replyOf judged wire sent ⌝ }
-{
-    if judged.number != 0 {
-        return refuse(wire, judged.number);
-    }
-    let o = judged.outcome;
-    let turn = o.turn;
-    let minislots = sent.minislots;
-    CallReply {
-        answer: Answer::Went {
-            turn,
-            senders: sent.senders,
-            index: sent.index,
-            segment: sent.segment,
-            delivered: o.delivered + delivered_now(turn, sent.senders),
-        },
-        wire: put_row(wire, o.group, minislots),
     }
 }

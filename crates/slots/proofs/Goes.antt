@@ -22,15 +22,15 @@ use Rattle.rules.specs.Limits.{between}
 use Rattle.rules.specs.Outcome.{successIn, successes, outcomeBy}
 use Rattle.rules.specs.Queueing.{placesAfter, passes, stepOneOf}
 use Rattle.rules.specs.Requesting.{requests}
-use Rattle.rules.specs.Soundness.{tableCounters}
+use Rattle.channel_rules.specs.Soundness.{tableCounters}
 use Rattle.rules.specs.StationCalls.{noStation, slotOf}
 use Rattle.rules.specs.Stepping.{requestMinislot, settledIn, actsOf, stepOf}
-use Rattle.rules.specs.ChannelCalls.{Channel, heardRow, feedbackHeard, outcomeHeard, slotsOf, slotsHeard, sentOf}
-use Rattle.rules.proofs.ChannelLaws.{limits, row-length, station-goes}
-use Rattle.rules.proofs.Gathering.{slots-length, InRow}
+use Rattle.channel_rules.specs.ChannelCalls.{Channel, heardRow, feedbackHeard, outcomeHeard, slotsOf, slotsHeard, sentOf}
+use Rattle.sound_slots.proofs.ChannelLaws.{limits, row-length, station-goes}
+use Rattle.channel_rules.proofs.Gathering.{slots-length, InRow}
 use Rattle.rules.proofs.LimitLaws.{between-bounds}
 use Rattle.rules.proofs.SlotStep.{and-both}
-use Rattle.rules.proofs.SoundMeans.{all-at}
+use Rattle.channel_rules.proofs.SoundMeans.{all-at}
 use Rattle.rules.proofs.Walking.{feedbacks-short}
 use Rattle.sending.specs.Gathered.{silence, gathered}
 use Rattle.sending.proofs.Forward.{AllInRow, gathers, senders-few}

@@ -2,5 +2,4 @@
 pub mod Numbers
 pub mod Goes
 pub mod Slot
-mod Copying
 mod Rows

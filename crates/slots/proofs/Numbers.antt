@@ -8,8 +8,8 @@ use borrow.Author.Tests.{eq-eqb, ne-eqb, eqb-true}
 use Rattle.listlaws.specs.Lists.{each}
 use Rattle.rules.specs.Limits.{between}
 use Rattle.rules.specs.Queueing.{stepOneOf}
-use Rattle.rules.specs.Soundness.{soundTable, tableCounters}
-use Rattle.rules.specs.ChannelCalls.{Channel, hasStations, feedbackHeard, outcomeHeard, channelSlotNumberOf}
+use Rattle.channel_rules.specs.Soundness.{soundTable, tableCounters}
+use Rattle.channel_rules.specs.ChannelCalls.{Channel, hasStations, feedbackHeard, outcomeHeard, channelSlotNumberOf}
 use Rattle.rules.proofs.Refusals.{test-passed}
 use Rattle.calls.specs.declared.Judged.{Judged}
 use Rattle.slots.specs.Judging.{judgedRefused, judgedOf}

@@ -9,8 +9,8 @@ use borrow.Author.Tests.{le-leb, eq-eqb}
 use Rattle.listlaws.specs.Lists.{each}
 use Rattle.minislot.specs.declared.Feedback.{Feedback}
 use Rattle.minislot.specs.declared.Minislot.{Minislot}
-use Rattle.minislot.specs.Row.{hasMinislots, rowOf}
-use Rattle.minislot.proofs.Answers.{number-whole}
+use Rattle.rows.specs.Row.{hasMinislots, rowOf}
+use Rattle.rows.proofs.Answers.{number-whole}
 use Rattle.rules.specs.declared.Counters.{Counters}
 use Rattle.rules.specs.declared.Outcome.{Outcome}
 use Rattle.rules.specs.declared.Station.{Station}
@@ -19,15 +19,16 @@ use Rattle.rules.specs.Hearing.{wordsOf, countsOf, feedbackOf, ReadRow}
 use Rattle.rules.specs.Limits.{between}
 use Rattle.rules.specs.Outcome.{outcomeOf}
 use Rattle.rules.specs.Queueing.{stepOneOf}
-use Rattle.rules.specs.Soundness.{soundTable, tableCounters}
-use Rattle.rules.specs.ChannelCalls.{Channel, hasStations, heardRow, feedbackHeard, outcomeHeard}
-use Rattle.rules.proofs.ChannelLaws.{first-within, limits, row-number, row-length}
+use Rattle.channel_rules.specs.Soundness.{soundTable, tableCounters}
+use Rattle.channel_rules.specs.ChannelCalls.{Channel, hasStations, heardRow, feedbackHeard, outcomeHeard}
+use Rattle.sound_slots.proofs.ChannelLaws.{first-within, limits, row-number, row-length}
 use Rattle.rules.proofs.RowReads.{feedback-is, read-row}
 use Rattle.table.specs.Loading.{absent}
 use Rattle.calls.specs.ByValue.{channelOf, arrayTable, arrayChannel}
 use Rattle.calls.proofs.ByValue.{few-true, array-length, array-at, array-some, array-sound}
 use Rattle.calls.specs.declared.Judged.{Judged}
-use Rattle.slots.specs.Heard.{groupRead, Readable}
+use Rattle.wire_hearing.specs.GroupRead.{groupRead}
+use Rattle.slots.specs.Heard.{Readable}
 use Rattle.slots.specs.Judging.{judgedRefused, judgedOf, SoundOn, JudgedOn}
 use Rattle.slots.proofs.Numbers.{slot-14, slot-18, slot-17, slot-11, slot-7, slot-goes}
 

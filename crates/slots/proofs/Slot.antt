@@ -18,14 +18,14 @@ use Rattle.rules.specs.declared.Station.{Station}
 use Rattle.rules.specs.declared.StationSlot.{StationSlot}
 use Rattle.rules.specs.declared.WireRow.{WireRow}
 use Rattle.rules.specs.Stepping.{stepOf}
-use Rattle.rules.specs.ChannelCalls.{refused, outcomeHeard, slotsHeard, sentOf, slotThrough, channelSlotNumberOf, channelSlotOf}
+use Rattle.channel_rules.specs.ChannelCalls.{refused, outcomeHeard, slotsHeard, sentOf, slotThrough, channelSlotNumberOf, channelSlotOf}
 use Rattle.table.specs.Loading.{loadOf}
 use Rattle.sending.specs.Gathered.{silence, gathered}
 use Rattle.calls.specs.ByValue.{channelOf, arrayChannel}
 use Rattle.calls.proofs.ByValue.{many-false, array-loaded, array-many}
 use Rattle.calls.specs.declared.Judged.{Judged}
 use Rattle.slots.specs.Judging.{noOutcome, judgedRefused, judgedOf}
-use Rattle.sending.specs.Replying.{replyOf, Answerable}
+use Rattle.replying.specs.Replying.{replyOf, Answerable}
 use Rattle.slots.specs.Stepped.{stationAfter, steppedOf, gatheredOf, slotLeft}
 use Rattle.slots.proofs.Numbers.{Passed, slot-passed, slot-14}
 use Rattle.slots.proofs.Goes.{stations-are, sent-is, senders-most, delivered-most}

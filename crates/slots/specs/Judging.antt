@@ -12,9 +12,9 @@ use Rattle.rules.specs.declared.WireRow.{WireRow}
 use Rattle.rules.specs.declared.Landing.the-variants.{Gone}
 use Rattle.rules.specs.Landing.{at}
 use Rattle.rules.specs.Refusing.{byNumber}
-use Rattle.rules.specs.Soundness.{soundTable, tableCounters}
+use Rattle.channel_rules.specs.Soundness.{soundTable, tableCounters}
 use Rattle.rules.specs.Starting.{noCounters}
-use Rattle.rules.specs.ChannelCalls.{Channel, hasStations, outcomeHeard, channelSlotNumberOf}
+use Rattle.channel_rules.specs.ChannelCalls.{Channel, hasStations, outcomeHeard, channelSlotNumberOf}
 use Rattle.calls.specs.declared.Judged.{Judged}
 
 -- a refused slot has no outcome: nobody steps

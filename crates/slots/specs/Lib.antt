@@ -1,4 +1,4 @@
--- Judging: a slot's number and outcome. Heard: the row that the counters hear on the wire. Stepped: the whole slot, the stations one after
+-- Judging: a slot's number and outcome. Heard: a row of the wire that can be heard. Stepped: the whole slot, the stations one after
 -- the other.
 pub mod Judging
 pub mod Heard

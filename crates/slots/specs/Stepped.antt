@@ -9,11 +9,11 @@ use Rattle.rules.specs.declared.Sent.{Sent}
 use Rattle.rules.specs.declared.Station.{Station}
 use Rattle.rules.specs.declared.WireRow.{WireRow}
 use Rattle.rules.specs.Stepping.{stepOf}
-use Rattle.rules.specs.ChannelCalls.{ChannelResult}
+use Rattle.channel_rules.specs.ChannelCalls.{ChannelResult}
 use Rattle.sending.specs.Gathered.{silence, gathered}
 use Rattle.calls.specs.ByValue.{channelOf}
 use Rattle.calls.specs.declared.Judged.{Judged}
-use Rattle.sending.specs.Replying.{replyOf}
+use Rattle.replying.specs.Replying.{replyOf}
 
 -- a station's record after its step
 abbrev pub stationAfter : Outcome → Station → ℕ → Station

@@ -1,11 +1,6 @@
 // A slot of a channel, judged on a copy of the table before any station steps.
-mod hearing;
-
 use calls::Judged;
 use calls::has_stations;
-use counters::step_one;
-use hearing::picks_within;
-use hearing::read_group;
 use outcomes::outcome;
 use rules::Counters;
 use rules::Landed;
@@ -15,7 +10,10 @@ use rules::Station;
 use rules::Turn;
 use rules::WireRow;
 use soundness::sound;
+use step_one::step_one;
 use table::Loaded;
+use wire_hearing::picks_within;
+use wire_hearing::read_group;
 ghost use mathlib.Core.Path.{_≡_};
 ghost use Rattle.calls.specs.ByValue.{arrayChannel};
 ghost use Rattle.slots.specs.Judging.{judgedRefused, judgedOf, JudgedOn};

@@ -6,14 +6,8 @@ ghost use mathlib.Core.Path.{_≡_};
 ghost use Prim.Native.Nat.{_≤_};
 ghost use lib.ListN.{take};
 ghost use Rattle.listlaws.specs.Lists.{padded};
-ghost use Rattle.rules.specs.Soundness.{messagesOf};
-ghost use Rattle.soundness.specs.Clauses.{noTableMessage};
-
-// Places that messages hold in a queue: the first `count` of the list.
-pub(crate) struct DrawnPlaces {
-    pub(crate) list: [u16; 64],
-    pub(crate) count: usize,
-}
+ghost use Rattle.channel_rules.specs.Soundness.{messagesOf};
+ghost use Rattle.drawing.specs.Drawn.{noTableMessage};
 
 // Each station's own message, with the station's index.
 pub(crate) fn messages(stations: [Station; 64], count: usize) -> [TableMessage; 64]

@@ -11,13 +11,13 @@ use Rattle.rules.specs.declared.Station.{Station}
 use Rattle.rules.specs.declared.StartAnswer.the-variants.{Ready}
 use Rattle.rules.specs.declared.WireRow.{WireRow}
 use Rattle.rules.specs.StationCalls.{startStation}
-use Rattle.rules.specs.ChannelCalls.{blankWire, newStations, newChannel, refusedBeginning as refusedChannel, channelStartNumberOf, channelStartOf}
+use Rattle.channel_rules.specs.ChannelCalls.{blankWire, newStations, newChannel, refusedBeginning as refusedChannel, channelStartNumberOf, channelStartOf}
 use Rattle.table.specs.Loading.{absent, loadOf}
 use Rattle.table.proofs.Loading.{store-none, store-loaded}
 use Rattle.calls.specs.ByValue.{channelOf}
 use Rattle.calls.proofs.ByValue.{few-true}
 use Rattle.starts.specs.Starting.{noBeginning, beginningOf, startLeft}
-use Rattle.starts.proofs.Numbers.{start-passed}
+use Rattle.start_numbers.proofs.Numbers.{start-passed}
 
 -- a record of a new table
 pub new-at : (m n : ℕ) (indexes : List ℕ) (i : ℕ) → i < length indexes → getD (newStations m n indexes) i absent ≡ startStation m n (getD indexes i 0)

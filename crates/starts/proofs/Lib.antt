@@ -1,3 +1,2 @@
 -- What a start comes to, written over the lent table, is the channel's definition.
-pub mod Numbers
 pub mod Begins

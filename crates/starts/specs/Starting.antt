@@ -5,7 +5,7 @@ use Rattle.rules.specs.declared.Station.{Station}
 use Rattle.rules.specs.declared.StartAnswer.the-variants.{Ready}
 use Rattle.rules.specs.declared.WireRow.{WireRow}
 use Rattle.rules.specs.Refusing.{byNumber}
-use Rattle.rules.specs.ChannelCalls.{ChannelStarted, blankWire, newStations, channelStartNumberOf}
+use Rattle.channel_rules.specs.ChannelCalls.{ChannelStarted, blankWire, newStations, channelStartNumberOf}
 use Rattle.table.specs.Loading.{blankOf, loadOf, storeOf}
 use Rattle.calls.specs.ByValue.{channelOf}
 use Rattle.calls.specs.Replies.{refusedStartReply}

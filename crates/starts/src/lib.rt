@@ -1,23 +1,19 @@
-// A start of a channel: its number in order of checking, and what it comes to.
+// A start of a channel: what it comes to, by its number.
 use calls::StartReply;
-use calls::has_stations;
-use conditions::limits::is_index;
-use counters::in_ranges;
 use minislot::Minislot;
-use places::distinct;
 use rules::Condition;
 use rules::StartAnswer;
 use rules::Station;
 use rules::WireRow;
+use start_numbers::start_number;
 use table::Loaded;
 use table::blanks;
 use table::hold;
 ghost use mathlib.Core.Path.{_≡_};
 ghost use Prim.Native.Nat.{_≤_};
 ghost use lib.ListN.{length};
-ghost use Rattle.listlaws.specs.Lists.{each};
-ghost use Rattle.rules.specs.StationCalls.{isIndex, startStation};
-ghost use Rattle.rules.specs.ChannelCalls.{newStations, blankWire, channelStartNumberOf};
+ghost use Rattle.rules.specs.StationCalls.{startStation};
+ghost use Rattle.channel_rules.specs.ChannelCalls.{newStations, blankWire};
 ghost use Rattle.table.specs.Loading.{loadOf};
 ghost use Rattle.starts.specs.Starting.{noBeginning, beginningOf};
 
@@ -26,43 +22,6 @@ pub struct Beginning {
     pub loaded: Loaded,
     pub reply: StartReply,
 }
-
-// ---- its number
-
-// Whether every number is an index of a pattern.
-fn all_indexes(indexes: &[u16]) -> bool
-    ensures { λ r. ⌜ r ≡ each isIndex (now (indexes .entry)) ⌝ }
-{
-    let mut i: usize = 0;
-    while i < indexes.len() {
-        if !is_index(indexes[i]) {
-            return false;
-        }
-        i += 1;
-    }
-    true
-}
-
-// The number of a start on a table of `count` records, 0 where it goes through: 5, 14, 8, 15.
-pub fn start_number(count: usize, m: u8, n: u8, indexes: &[u16]) -> u8
-    ensures { λ r. ⌜ r ≡ channelStartNumberOf count m n (now (indexes .entry)) ⌝ }
-{
-    if !in_ranges(m, n) {
-        return 5;
-    }
-    if !has_stations(count) {
-        return 14;
-    }
-    if indexes.len() != count {
-        return 14;
-    }
-    if !all_indexes(indexes) {
-        return 8;
-    }
-    if distinct(indexes) { 0 } else { 15 }
-}
-
-// ---- what it comes to
 
 fn start_station(m: u8, n: u8, index: u16) -> Station
     ensures { λ r. ⌜ r ≡ startStation m n index ⌝ }

@@ -10,8 +10,8 @@ use Rattle.rules.specs.declared.OfferAnswer.the-variants.{Taken as Accepted}
 use Rattle.rules.specs.declared.Condition.the-variants.{Fresh}
 use Rattle.rules.specs.StationLimits.{stationWithin}
 use Rattle.rules.specs.StationCalls.{withCondition, refusedOffer, takingNumberOf, offerNumberOf, offerOf}
-use Rattle.conditions.specs.declared.offering.Taken.{Taken}
-use Rattle.conditions.specs.Taking.{takingOf}
+use Rattle.taking.specs.declared.Taken.{Taken}
+use Rattle.taking.specs.Taking.{takingOf}
 
 module _ (s : Station) (bytes : ℕ) where
   pub offer-18 : stationWithin s ≡ false → refusedOffer s 18 ≡ offerOf s bytes

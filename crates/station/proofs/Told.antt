@@ -1,17 +1,14 @@
 -- A call that gives what its definition gives also answers the number and the values that the paper tells: both halves of its contract at once, of the
 -- first. Assumes nothing.
 use mathlib.Core.Path.{_≡_, ap, _∙_}
-use mathlib.Core.List.{List}
 use Prim.Native.Nat.{ℕ}
 use Rattle.rules.specs.declared.Station.{Station}
 use Rattle.rules.specs.declared.StationStarted.{StationStarted}
 use Rattle.rules.specs.declared.StationOffered.{StationOffered}
-use Rattle.rules.specs.declared.StationSlot.{StationSlot}
-use Rattle.rules.specs.StationCalls.{stationStartOf, offerOf, slotOf}
-use Rattle.rules.specs.Recorded.{slotAtOf}
-use Rattle.rules.specs.Numbers.{startTold, offerTold, slotTold}
-use Rattle.rules.specs.Answered.{stationStartToldOf, offerToldOf, slotToldOf, slotAtToldOf}
-use Rattle.rules.proofs.NumbersHold.{station-start-told, offer-told, slot-told, slot-at-told}
+use Rattle.rules.specs.StationCalls.{stationStartOf, offerOf}
+use Rattle.rules.specs.Numbers.{startTold, offerTold}
+use Rattle.rules.specs.Answered.{stationStartToldOf, offerToldOf}
+use Rattle.rules.proofs.NumbersHold.{station-start-told, offer-told}
 
 pub start-both : (m n index : ℕ) {r : StationStarted} → r ≡ stationStartOf m n index
     → (r ≡ stationStartOf m n index) × (startTold (r .answer) ≡ stationStartToldOf m n index)
@@ -19,11 +16,3 @@ start-both m n index e = (e, ap (λ (x : StationStarted). startTold (x .answer))
 
 pub offer-both : (s : Station) (bytes : ℕ) {r : StationOffered} → r ≡ offerOf s bytes → (r ≡ offerOf s bytes) × (offerTold (r .answer) ≡ offerToldOf s bytes)
 offer-both s bytes e = (e, ap (λ (x : StationOffered). offerTold (x .answer)) e ∙ offer-told s bytes)
-
-pub slot-both : (s : Station) (words counts : List ℕ) (pick : ℕ) {r : StationSlot} → r ≡ slotOf s words counts pick
-    → (r ≡ slotOf s words counts pick) × (slotTold (r .answer) ≡ slotToldOf s words counts pick)
-slot-both s words counts pick e = (e, ap (λ (x : StationSlot). slotTold (x .answer)) e ∙ slot-told s words counts pick)
-
-pub slot-at-both : (s : Station) (start : ℕ) (words counts : List ℕ) (pick : ℕ) {r : StationSlot} → r ≡ slotAtOf s start words counts pick
-    → (r ≡ slotAtOf s start words counts pick) × (slotTold (r .answer) ≡ slotAtToldOf s start words counts pick)
-slot-at-both s start words counts pick e = (e, ap (λ (x : StationSlot). slotTold (x .answer)) e ∙ slot-at-told s start words counts pick)

@@ -1,17 +1,13 @@
-// What a message does in a slot, from the slot's outcome and the message's condition: steps 1 and 3 to 5, each function equal to its rule
-// of crate `rules`, for any condition. Whoever keeps the counters once applies them to each message.
-pub mod landing;
-pub mod requesting;
-pub mod serving;
-
+// What a message does in a slot, from the slot's outcome and the message's condition: steps 1 and 3 to 5, for any condition. Whoever keeps
+// the counters once applies it to each message.
 use landing::settled_in;
+use moving::moves;
 use requesting::request;
 use requesting::request_minislot;
 use requesting::requests;
 use rules::Acted;
 use rules::Condition;
 use rules::Outcome;
-use serving::moves;
 use serving::sends;
 ghost use mathlib.Core.Path.{_≡_};
 ghost use Rattle.rules.specs.Stepping.{actsOf};

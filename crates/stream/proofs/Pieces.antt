@@ -13,19 +13,19 @@ use borrow.Author.Tests.{ltb-true, ltb-false}
 use lib.Dec.{eqb, ltb}
 use lib.ListN.{length, take, drop, length-drop}
 use lib.Seq.{take-append-le, drop-append-le}
-use Rattle.recording.specs.Cutting.{cutOf, begins, goesOn, afterReturn}
-use Rattle.recording.specs.declared.records.Cut.{Cut}
-use Rattle.recording.specs.declared.records.Cut.the-variants as cut
-use Rattle.recording.proofs.Cuts.{begins-none}
-use Rattle.recording.proofs.Streams.{settled, extent, enough-bytes}
-use Rattle.follower.specs.declared.Follower.{Follower}
-use Rattle.follower.specs.declared.Line.{Line}
-use Rattle.follower.specs.declared.Line.the-variants.{Nothing, Row, Refusal}
-use Rattle.follower.specs.declared.Progress.the-variants.{More, Done}
-use Rattle.follower.specs.Following.{followRecord, refusedStep}
-use Rattle.follower.specs.Advancing as advancing
-use Rattle.follower.specs.Advancing.{progressOf, stepAdvance, stayAdvance, doneAdvance, advanceBy, advanceOf}
-use Rattle.follower.proofs.CutReads.{inside}
+use Rattle.records.specs.Cutting.{cutOf, begins, goesOn, afterReturn}
+use Rattle.records.specs.declared.Cut.{Cut}
+use Rattle.records.specs.declared.Cut.the-variants as cut
+use Rattle.records.proofs.Cuts.{begins-none}
+use Rattle.records.proofs.Streams.{settled, extent, enough-bytes}
+use Rattle.following.specs.declared.Follower.{Follower}
+use Rattle.following.specs.declared.Line.{Line}
+use Rattle.following.specs.declared.Line.the-variants.{Nothing, Row, Refusal}
+use Rattle.advances.specs.declared.Progress.the-variants.{More, Done}
+use Rattle.following.specs.Following.{followRecord, refusedStep}
+use Rattle.advances.specs.Advancing as advancing
+use Rattle.advances.specs.Advancing.{progressOf, stepAdvance, stayAdvance, doneAdvance, advanceBy, advanceOf}
+use Rattle.records.proofs.Streams.{inside}
 
 -- no cut but More is More
 not-record : (end next : ℕ) → cut.More ≡ cut.Record end next → ⊥

@@ -8,15 +8,15 @@ use native.Mathlib.Omega.{arith}
 use lib.Dec.{ltb}
 use lib.ListN.{length, drop}
 use lib.Seq.{drop-append-add}
-use Rattle.recording.specs.Cutting.{cutOf, begins}
-use Rattle.recording.specs.declared.records.Cut.{Cut}
-use Rattle.recording.specs.declared.records.Cut.the-variants.{Record, More, Done, Broken}
-use Rattle.recording.proofs.Streams.{moved, begins-moved}
-use Rattle.follower.specs.declared.Follower.{Follower}
-use Rattle.follower.specs.declared.Advance.{Advance}
-use Rattle.follower.specs.declared.Progress.the-variants as progress
-use Rattle.follower.specs.Following.{refusedStep}
-use Rattle.follower.specs.Advancing.{stepAdvance, stayAdvance, advanceBy, advanceOf}
+use Rattle.records.specs.Cutting.{cutOf, begins}
+use Rattle.records.specs.declared.Cut.{Cut}
+use Rattle.records.specs.declared.Cut.the-variants.{Record, More, Done, Broken}
+use Rattle.records.proofs.Streams.{moved, begins-moved}
+use Rattle.following.specs.declared.Follower.{Follower}
+use Rattle.advances.specs.declared.Advance.{Advance}
+use Rattle.advances.specs.declared.Progress.the-variants as progress
+use Rattle.following.specs.Following.{refusedStep}
+use Rattle.advances.specs.Advancing.{stepAdvance, stayAdvance, advanceBy, advanceOf}
 
 abbrev pub shifted : ℕ → Advance → Advance
 shifted d a = record { progress = a .progress; follower = a .follower; next = d + a .next; line = a .line }

@@ -7,12 +7,13 @@ use Prim.Native.Nat.{ℕ, zero, suc, _+_, _-_, _<_, _≤_}
 use native.Mathlib.Numerals.{add-one}
 use native.Mathlib.Omega.{arith}
 use lib.ListN.{length}
-use Rattle.lines.specs.Lines.{putAt}
-use Rattle.follower.specs.declared.Follower.{Follower}
+use Rattle.decimals.specs.Putting.{putAt}
+use Rattle.following.specs.declared.Follower.{Follower}
 use Rattle.follower.specs.declared.Next.{Next}
-use Rattle.follower.specs.declared.Progress.the-variants.{Went}
-use Rattle.follower.specs.Following.{bytesOf}
-use Rattle.follower.specs.Advancing.{goesOn, advanceOf, reached}
+use Rattle.advances.specs.declared.Progress.the-variants.{Went}
+use Rattle.following.specs.Following.{bytesOf}
+use Rattle.advances.specs.Advancing.{goesOn, advanceOf}
+use Rattle.follower.specs.Writing.{reached}
 use Rattle.stream.specs.Buffering.{Buffered, roomFor, bufferedStep, bufferedFrom, bufferedOf}
 
 -- the loop begins with one round more than there are bytes

@@ -8,19 +8,21 @@ use native.Mathlib.Omega.{arith}
 use borrow.Author.Tests.{le-leb}
 use lib.ListN.{length, length-append}
 use lib.Seq.{sets}
-use Rattle.lines.specs.Lines.{headerOf, putAt, placeAfter}
-use Rattle.lines.proofs.Stores.{sets-append}
-use Rattle.follower.specs.declared.Advance.{Advance}
+use Rattle.lines.specs.Lines.{headerOf}
+use Rattle.decimals.specs.Putting.{putAt, placeAfter}
+use Rattle.decimals.proofs.Stores.{sets-append}
+use Rattle.advances.specs.declared.Advance.{Advance}
 use Rattle.follower.specs.declared.Next.{Next}
-use Rattle.follower.specs.declared.Progress.{Progress}
-use Rattle.follower.specs.declared.Progress.the-variants.{Went, More, Done, Refused}
-use Rattle.follower.specs.Following.{atBegin, bytesOf}
-use Rattle.follower.specs.Advancing.{goesOn, advanceOf, reached, linesFrom, followOf}
-use Rattle.follower.proofs.Unwritten.{put-nothing}
+use Rattle.advances.specs.declared.Progress.{Progress}
+use Rattle.advances.specs.declared.Progress.the-variants.{Went, More, Done, Refused}
+use Rattle.following.specs.Following.{atBegin, bytesOf}
+use Rattle.advances.specs.Advancing.{goesOn, advanceOf, linesFrom, followOf}
+use Rattle.follower.specs.Writing.{reached}
+use Rattle.decimals.proofs.Stores.{put-nothing}
 use Rattle.stream.specs.Buffering.{Buffered, roomFor, bufferedStep, bufferedFrom, bufferedOf}
 use Rattle.stream.specs.Recordings.{finished, WholeRecording}
 use Rattle.stream.proofs.Pieces.{further, whole-input}
-use Rattle.stream.proofs.Puts.{put-stores, put-reaches, put-length}
+use Rattle.decimals.proofs.Puts.{put-stores, put-reaches, put-length}
 
 -- one piece and then another is both
 put-both : (buffer : List ℕ) (at : ℕ) (xs ys : List ℕ) → at + length (xs ++ ys) ≤ length buffer

@@ -5,12 +5,13 @@ use mathlib.Core.List.{List}
 use Prim.Native.Nat.{ℕ, zero, suc, _+_}
 use lib.Dec.{leb}
 use lib.ListN.{length}
-use Rattle.lines.specs.Lines.{putAt}
-use Rattle.follower.specs.declared.Follower.{Follower}
+use Rattle.decimals.specs.Putting.{putAt}
+use Rattle.following.specs.declared.Follower.{Follower}
 use Rattle.follower.specs.declared.Next.{Next}
-use Rattle.follower.specs.declared.Progress.the-variants.{Went}
-use Rattle.follower.specs.Following.{bytesOf}
-use Rattle.follower.specs.Advancing.{goesOn, advanceOf, reached}
+use Rattle.advances.specs.declared.Progress.the-variants.{Went}
+use Rattle.following.specs.Following.{bytesOf}
+use Rattle.advances.specs.Advancing.{goesOn, advanceOf}
+use Rattle.follower.specs.Writing.{reached}
 
 -- the buffer with the lines in it, and what became of the last record looked at
 pub record Buffered : Type 0 where

@@ -1,3 +1,2 @@
 pub mod Buffering
-pub mod Keeping
 pub mod Recordings

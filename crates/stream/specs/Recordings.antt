@@ -5,11 +5,12 @@ use mathlib.Core.Path.{_≡_}
 use mathlib.Core.List.{List}
 use Prim.Native.Nat.{ℕ}
 use lib.ListN.{length}
-use Rattle.lines.specs.Lines.{headerOf, putAt}
-use Rattle.follower.specs.declared.Progress.{Progress}
-use Rattle.follower.specs.declared.Progress.the-variants.{Went, More, Done, Refused}
-use Rattle.follower.specs.Following.{atBegin}
-use Rattle.follower.specs.Advancing.{followOf}
+use Rattle.lines.specs.Lines.{headerOf}
+use Rattle.decimals.specs.Putting.{putAt}
+use Rattle.advances.specs.declared.Progress.{Progress}
+use Rattle.advances.specs.declared.Progress.the-variants.{Went, More, Done, Refused}
+use Rattle.following.specs.Following.{atBegin}
+use Rattle.advances.specs.Advancing.{followOf}
 use Rattle.stream.specs.Buffering.{Buffered, bufferedOf}
 
 -- the header is put, and then what the records lead to

@@ -1,8 +1,8 @@
 // The table of stations that a caller lends: copied by value, for what needs all stations together, and written back.
-use conditions::limits::no_station;
+use conditions::no_station;
+use drawing::least;
 use rules::Station;
 ghost use mathlib.Core.Path.{_≡_};
-ghost use Prim.Native.Nat.{min};
 ghost use lib.ListN.{getD};
 ghost use Rattle.rules.specs.StationCalls.{noStation};
 ghost use Rattle.table.specs.Loading.{of, copiesOf, blankStations, loadOf, storeOf};
@@ -11,12 +11,6 @@ ghost use Rattle.table.specs.Loading.{of, copiesOf, blankStations, loadO
 pub struct Loaded {
     pub stations: [Station; 64],
     pub count: usize,
-}
-
-pub fn least(a: usize, b: usize) -> usize
-    ensures { λ r. ⌜ r ≡ min a b ⌝ }
-{
-    if a < b { a } else { b }
 }
 
 // How many records of a table of n are copied from or to one of m: no more than either has, nor than 64.

@@ -1,6 +1,6 @@
--- `bench::arrived` is safe and ends: the station is one of the 64.
+-- `arrived` is safe and ends: the station is one of the 64.
 -- Assumes nothing.
-use Prim.Native.Nat.{_≤_, _-_}
+use Prim.Native.Nat.{_-_, _≤_}
 use borrow.Author.Needs.{needs}
 use Rattle.bench.proofs.arrived.Statement.{statement}
 use Rattle.bench.proofs.arrived.Tie as tie
@@ -17,17 +17,14 @@ loop-holds c = search needs
 draw-requires : tie.Need-draw-requires Inv-loop μ-loop
 draw-requires c κs = search needs
 
-cast-offer : tie.Need-cast-offer Inv-loop μ-loop
-cast-offer c = search needs
-
-mul-offer : tie.Need-mul-offer Inv-loop μ-loop
-mul-offer c = search needs
+index-of-requires : tie.Need-index-of-requires Inv-loop μ-loop
+index-of-requires c κs = search needs
 
 size-requires : tie.Need-size-requires Inv-loop μ-loop
 size-requires c κs = search needs
 
-offer-requires : tie.Need-offer-requires Inv-loop μ-loop
-offer-requires c κs = search needs
+offered-requires : tie.Need-offered-requires Inv-loop μ-loop
+offered-requires c κs = search needs
 
 add-k : tie.Need-add-k Inv-loop μ-loop
 add-k c = search needs
@@ -49,10 +46,9 @@ arrived-spec =
     μ-loop
     loop-holds
     draw-requires
-    cast-offer
-    mul-offer
+    index-of-requires
     size-requires
-    offer-requires
+    offered-requires
     add-k
     loop-less
     loop-again

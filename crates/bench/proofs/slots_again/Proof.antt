@@ -1,6 +1,6 @@
--- `bench::slots_again` is safe and ends: it counts up to the number of times.
+-- `slots_again` is safe and ends: it counts up to the number of times.
 -- Assumes nothing.
-use Prim.Native.Nat.{_≤_, _-_}
+use Prim.Native.Nat.{_-_, _≤_}
 use borrow.Author.Needs.{needs}
 use Rattle.bench.proofs.slots_again.Statement.{statement}
 use Rattle.bench.proofs.slots_again.Tie as tie
@@ -17,17 +17,17 @@ loop-holds c = search needs
 picks-of-requires : tie.Need-picks-of-requires Inv-loop μ-loop
 picks-of-requires c κs = search needs
 
-sub-slot : tie.Need-sub-slot Inv-loop μ-loop
-sub-slot c = search needs
+sub-slotted : tie.Need-sub-slotted Inv-loop μ-loop
+sub-slotted c = search needs
 
-part-slot-start : tie.Need-part-slot-start Inv-loop μ-loop
-part-slot-start c = search needs
+part-slotted-start : tie.Need-part-slotted-start Inv-loop μ-loop
+part-slotted-start c = search needs
 
-part-slot-end : tie.Need-part-slot-end Inv-loop μ-loop
-part-slot-end c = search needs
+part-slotted-end : tie.Need-part-slotted-end Inv-loop μ-loop
+part-slotted-end c = search needs
 
-slot-requires : tie.Need-slot-requires Inv-loop μ-loop
-slot-requires c κs = search needs
+slotted-requires : tie.Need-slotted-requires Inv-loop μ-loop
+slotted-requires c κs = search needs
 
 digest-of-requires : tie.Need-digest-of-requires Inv-loop μ-loop
 digest-of-requires c κs = search needs
@@ -55,10 +55,10 @@ slots-again-spec =
     μ-loop
     loop-holds
     picks-of-requires
-    sub-slot
-    part-slot-start
-    part-slot-end
-    slot-requires
+    sub-slotted
+    part-slotted-start
+    part-slotted-end
+    slotted-requires
     digest-of-requires
     plus-requires
     add-i

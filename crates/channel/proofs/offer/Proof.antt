@@ -48,10 +48,10 @@ use Rattle.offers.specs.Offering.{offeredOf}
 use Rattle.channel.specs.Leaving.{leaves}
 use Rattle.table.specs.Loading.{storeOf}
 use Rattle.table.proofs.Loading.{length-store}
-use Rattle.rules.specs.ChannelCalls.{ChannelResult, channelOfferOf}
+use Rattle.channel_rules.specs.ChannelCalls.{ChannelResult, channelOfferOf}
 use Rattle.rules.specs.Calls.{Offer}
 use Rattle.rules.specs.Numbers.{callTold}
-use Rattle.rules.proofs.NumbersHold.{channel-told}
+use Rattle.channel_rules.proofs.NumbersHold.{channel-told}
 use Rattle.offers.proofs.Offers.{offer-is}
 use Rattle.channel.proofs.Uses.{PlaceOffer, use-offer}
 use Rattle.table.proofs.Loans.{Load, loan-load, Store, loan-store}

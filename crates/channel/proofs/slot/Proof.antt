@@ -45,14 +45,14 @@ use Rattle.calls.specs.declared.CallReply.{CallReply}
 use Rattle.calls.specs.declared.Judged.{Judged}
 use Rattle.table.specs.Loading.{loadOf}
 use Rattle.calls.specs.ByValue.{channelOf, arrayChannel}
-use Rattle.sending.specs.Replying.{replyOf, Answerable}
+use Rattle.replying.specs.Replying.{replyOf, Answerable}
 use Rattle.slots.specs.Judging.{judgedOf}
 use Rattle.slots.specs.Stepped.{stationAfter, steppedOf, gatheredOf}
 use Rattle.channel.specs.Leaving.{leaves}
-use Rattle.rules.specs.ChannelCalls.{ChannelResult, channelSlotOf}
+use Rattle.channel_rules.specs.ChannelCalls.{ChannelResult, channelSlotOf}
 use Rattle.rules.specs.Calls.{Slot}
 use Rattle.rules.specs.Numbers.{callTold}
-use Rattle.rules.proofs.NumbersHold.{channel-told}
+use Rattle.channel_rules.proofs.NumbersHold.{channel-told}
 use Rattle.slots.proofs.Slot.{slot-is, answerable, judged-loaded}
 use Rattle.listlaws.proofs.Steps.{length-allSteps}
 use Rattle.table.proofs.Loans.{Load, loan-load}
@@ -70,9 +70,9 @@ use Rattle.slots.proofs.judge.Met as judge-thm
 use Rattle.pass.proofs.step_all.Symbol as step-def
 use Rattle.pass.proofs.step_all.Symbol.{name as #pass·step-all}
 use Rattle.pass.proofs.step_all.Met as step-thm
-use Rattle.sending.proofs.reply.Symbol as reply-def
-use Rattle.sending.proofs.reply.Symbol.{name as #sending·reply}
-use Rattle.sending.proofs.reply.Met as reply-thm
+use Rattle.replying.proofs.reply.Symbol as reply-def
+use Rattle.replying.proofs.reply.Symbol.{name as #replying·reply}
+use Rattle.replying.proofs.reply.Met as reply-thm
 use Rattle.channel.proofs.slot.Key.{name as #channel·slot}
 use Rattle.channel.proofs.slot as slot′
 use Rattle.channel.proofs.slot.Statement as stated
@@ -176,7 +176,7 @@ module _ {M : Type 1} (𝓤 : URA M) (H : Heap 𝓤) (A : Atoms 𝓤) (W : Given
       left : leaves zs r ≡ channelSlotOf (channelOf ys w) ps
       left = ap (leaves zs) e ∙ ap by (judged-loaded ys w ps) ∙ slot-is ys w ps
 
-  walk : (𝓣 : Tables 𝓤 H) → Triple 𝓤 (𝓣 .C #table·load) (Load 𝓤 H A mem run) → Triple 𝓤 (𝓣 .C #slots·judge) (Judge 𝓤 H A mem run) → Triple 𝓤 (𝓣 .C #pass·step-all) (StepAll 𝓤 H A mem run) → Triple 𝓤 (𝓣 .C #sending·reply) (Reply 𝓤 H A mem run)
+  walk : (𝓣 : Tables 𝓤 H) → Triple 𝓤 (𝓣 .C #table·load) (Load 𝓤 H A mem run) → Triple 𝓤 (𝓣 .C #slots·judge) (Judge 𝓤 H A mem run) → Triple 𝓤 (𝓣 .C #pass·step-all) (StepAll 𝓤 H A mem run) → Triple 𝓤 (𝓣 .C #replying·reply) (Reply 𝓤 H A mem run)
       → ent 𝓤 (onEntry 𝓤 H A slot′.signature (κ, (κ′, tt)) (q, (q′, tt)) a mach) (WpFn 𝓤 H (𝓣 .C) (𝓣 .Λ) fn (sliceVal (b, o) (length ys) ∷ wire .val w ∷ sliceVal (b′, o′) (length ps) ∷ []) Post)
   walk 𝓣 known-load known-judge known-step known-reply =
       qed W ((‵ (flft κ q) ⊛ ‵ (flft κ′ q′) ⊛ ‵ ftrue) ∷ ‵ (owns (MutSlice (named 0) κ R ∷ (wire .R) ∷ ShrSlice (named 1) κ′ u8 ∷ []) a mach) ∷ []) ∵ enter ! (𝓣 .C) (𝓣 .Λ) fn (sliceVal (b, o) (length ys) ∷ wire .val w ∷ sliceVal (b′, o′) (length ps) ∷ []) _ $
@@ -219,13 +219,13 @@ module _ {M : Type 1} (𝓤 : URA M) (H : Heap 𝓤) (A : Atoms 𝓤) (W : Given
       keep ! (0 ∷ 1 ∷ 2 ∷ 3 ∷ 4 ∷ []) $ by ! (exits (replyOf d w got) refl gr))))))))))))))))
 
 module _ {M : Type 1} (𝓤 : URA M) (H : Heap 𝓤) (A : Atoms 𝓤) (W : Given 𝓤 H A) (mem : Memory → SProp 𝓤) (run : Routine → Fun 𝓤) where
-  slot-walks : (𝓣 : Tables 𝓤 H) → Triple 𝓤 (𝓣 .C #table·load) (Load 𝓤 H A mem run) → Triple 𝓤 (𝓣 .C #slots·judge) (Judge 𝓤 H A mem run) → Triple 𝓤 (𝓣 .C #pass·step-all) (StepAll 𝓤 H A mem run) → Triple 𝓤 (𝓣 .C #sending·reply) (Reply 𝓤 H A mem run)
+  slot-walks : (𝓣 : Tables 𝓤 H) → Triple 𝓤 (𝓣 .C #table·load) (Load 𝓤 H A mem run) → Triple 𝓤 (𝓣 .C #slots·judge) (Judge 𝓤 H A mem run) → Triple 𝓤 (𝓣 .C #pass·step-all) (StepAll 𝓤 H A mem run) → Triple 𝓤 (𝓣 .C #replying·reply) (Reply 𝓤 H A mem run)
       → Walks 𝓤 H A slot′.ended stayed (WpFn 𝓤 H (𝓣 .C) (𝓣 .Λ) fn) (slot′.clauses 𝓤 H A mem run)
   slot-walks 𝓣 known-load known-judge known-step known-reply = walked 𝓤 H A slot′.ended stayed (slot′.clauses 𝓤 H A mem run) (WpFn 𝓤 H (𝓣 .C) (𝓣 .Λ) fn) (λ κs. (slice-vals, (vals wire, (slice-vals, tt)))) (λ κs. (mut-slice-tells (named 0) (κs .0) R, (wire .tells, (shr-slice-tells (named 1) (κs .1 .0) u8, tt))))
       (λ κs qs bounds a g are. via 𝓤 _ (fst∗ 𝓤 _ (emp 𝓤)) (walk 𝓤 H A W mem run (κs .0) (κs .1 .0) (qs .0) (qs .1 .0) (a .0 .ptr .0) (a .0 .ptr .1) (a .0 .name) (a .0 .now) (a .1 .0) (a .1 .1 .0 .ptr .0) (a .1 .1 .0 .ptr .1) (a .1 .1 .0 .name) (a .1 .1 .0 .now) (are .0 .0 .1) (are .1 .0) (are .1 .1 .0 .0 .1) 𝓣 known-load known-judge known-step known-reply))
 
 slot-meets : {M : Type 1} (𝓤 : URA M) (H : Heap 𝓤) (A : Atoms 𝓤) → Given 𝓤 H A → (mem : Memory → SProp 𝓤) (run : Routine → Fun 𝓤) (𝓣 : Tables 𝓤 H)
-    → Triple 𝓤 (𝓣 .C #table·load) (Load 𝓤 H A mem run) → Triple 𝓤 (𝓣 .C #slots·judge) (Judge 𝓤 H A mem run) → Triple 𝓤 (𝓣 .C #pass·step-all) (StepAll 𝓤 H A mem run) → Triple 𝓤 (𝓣 .C #sending·reply) (Reply 𝓤 H A mem run)
+    → Triple 𝓤 (𝓣 .C #table·load) (Load 𝓤 H A mem run) → Triple 𝓤 (𝓣 .C #slots·judge) (Judge 𝓤 H A mem run) → Triple 𝓤 (𝓣 .C #pass·step-all) (StepAll 𝓤 H A mem run) → Triple 𝓤 (𝓣 .C #replying·reply) (Reply 𝓤 H A mem run)
     → Meets 𝓤 H A slot′.signature (WpFn 𝓤 H (𝓣 .C) (𝓣 .Λ) code.function) (slot′.spec 𝓤 H A mem run)
 slot-meets 𝓤 H A W mem run 𝓣 known-load known-judge known-step known-reply =
     walk-meets 𝓤 H A slot′.ended stayed W (goes-slice 𝓤 H A W 2 0 tt (plain (λ _. R)), (goes-none 𝓤 H A W 2 (λ _. (wire .R)) yes (λ κs x f. refl), (goes-none-slice 𝓤 H A W 2 (1 ∷ []) tt (plain (λ _. u8)) yes, tt))) (slot′.clauses 𝓤 H A mem run)
@@ -241,4 +241,4 @@ slot-spec 𝓤 H 𝓜 𝓖 𝓡 =
     (cited 𝓤 H (Load 𝓤 H (𝓖 .A) (𝓜 .mem) (𝓡 .run)) 𝓜 𝓡 code.env #table·load load-def.routine code.calls-table·load (load-thm.met 𝓤 H 𝓜 𝓖 𝓡))
     (cited 𝓤 H (Judge 𝓤 H (𝓖 .A) (𝓜 .mem) (𝓡 .run)) 𝓜 𝓡 code.env #slots·judge judge-def.routine code.calls-slots·judge (judge-thm.met 𝓤 H 𝓜 𝓖 𝓡))
     (cited 𝓤 H (StepAll 𝓤 H (𝓖 .A) (𝓜 .mem) (𝓡 .run)) 𝓜 𝓡 code.env #pass·step-all step-def.routine code.calls-pass·step-all (step-thm.met 𝓤 H 𝓜 𝓖 𝓡))
-    (cited 𝓤 H (Reply 𝓤 H (𝓖 .A) (𝓜 .mem) (𝓡 .run)) 𝓜 𝓡 code.env #sending·reply reply-def.routine code.calls-sending·reply (reply-thm.met 𝓤 H 𝓜 𝓖 𝓡)))
+    (cited 𝓤 H (Reply 𝓤 H (𝓖 .A) (𝓜 .mem) (𝓡 .run)) 𝓜 𝓡 code.env #replying·reply reply-def.routine code.calls-replying·reply (reply-thm.met 𝓤 H 𝓜 𝓖 𝓡)))

@@ -47,9 +47,9 @@ use Rattle.starts.specs.Starting.{beginningOf}
 use Rattle.channel.specs.Leaving.{leavesStarted}
 use Rattle.table.specs.Loading.{storeOf}
 use Rattle.table.proofs.Loading.{length-store}
-use Rattle.rules.specs.ChannelCalls.{ChannelStarted, channelStartOf}
+use Rattle.channel_rules.specs.ChannelCalls.{ChannelStarted, channelStartOf}
 use Rattle.rules.specs.Numbers.{startTold}
-use Rattle.rules.proofs.NumbersHold.{channel-start-told}
+use Rattle.channel_rules.proofs.NumbersHold.{channel-start-told}
 use Rattle.starts.proofs.Begins.{start-is}
 use Rattle.table.proofs.Loans.{Store, loan-store}
 use Rattle.channel.proofs.Loans.{Begin, pass-begin}

@@ -1,34 +1,22 @@
--- `channel_run::cases` is safe and ends: each line ends after its start.
+-- `cases` is safe and ends: each line ends after its start.
 -- Assumes nothing.
-use Prim.Native.Nat.{_+_, _≤_, _-_}
+use Prim.Native.Nat.{_+_, _-_, _≤_}
 use lib.ListN.{length}
 use borrow.Author.Needs.{needs}
 use Rattle.channel_run.proofs.cases.Statement.{statement}
 use Rattle.channel_run.proofs.cases.Tie as tie
 
 abbrev Inv-loop : tie.InvT-loop
-Inv-loop bytes t₀ a₀ at₀ t a at = at ≤ length bytes + 1
+Inv-loop bytes s₀ at₀ s at = at ≤ length bytes + 1
 
 abbrev μ-loop : tie.MeasureT-loop
-μ-loop bytes t₀ a₀ at₀ t a at = length bytes + 1 - at
+μ-loop bytes s₀ at₀ s at = length bytes + 1 - at
 
 loop-holds : tie.Need-loop-holds Inv-loop μ-loop
 loop-holds c = search needs
 
 line-end-requires : tie.Need-line-end-requires Inv-loop μ-loop
 line-end-requires c κs = search needs
-
-sub-given : tie.Need-sub-given Inv-loop μ-loop
-sub-given c = search needs
-
-part-given-start : tie.Need-part-given-start Inv-loop μ-loop
-part-given-start c = search needs
-
-part-given-end : tie.Need-part-given-end Inv-loop μ-loop
-part-given-end c = search needs
-
-given-requires : tie.Need-given-requires Inv-loop μ-loop
-given-requires c κs = search needs
 
 sub-case : tie.Need-sub-case Inv-loop μ-loop
 sub-case c = search needs
@@ -62,10 +50,6 @@ cases-spec =
     μ-loop
     loop-holds
     line-end-requires
-    sub-given
-    part-given-start
-    part-given-end
-    given-requires
     sub-case
     part-case-start
     part-case-end

@@ -1,15 +1,17 @@
--- `channel_run::indexes_of` is safe and ends: the place is one of the first sixteen.
+-- `indexes_of` is safe and ends: the place is one of the 65.
 -- Assumes nothing.
-use Prim.Native.Nat.{_≤_, _-_}
+use mathlib.Core.Path.{_≡_}
+use Prim.Native.Nat.{_-_, _≤_}
+use lib.ListN.{length}
 use borrow.Author.Needs.{needs}
 use Rattle.channel_run.proofs.indexes_of.Statement.{statement}
 use Rattle.channel_run.proofs.indexes_of.Tie as tie
 
 abbrev Inv-loop : tie.InvT-loop
-Inv-loop g indexes₀ k₀ indexes k = k ≤ 16
+Inv-loop g indexes₀ index₀ k₀ indexes index k = (length indexes ≡ 65) × (k ≤ 65)
 
 abbrev μ-loop : tie.MeasureT-loop
-μ-loop g indexes₀ k₀ indexes k = 16 - k
+μ-loop g indexes₀ index₀ k₀ indexes index k = 65 - k
 
 loop-holds : tie.Need-loop-holds Inv-loop μ-loop
 loop-holds c = search needs
@@ -19,6 +21,9 @@ add-number16 c = search needs
 
 number16-requires : tie.Need-number16-requires Inv-loop μ-loop
 number16-requires c κs = search needs
+
+add-index : tie.Need-add-index Inv-loop μ-loop
+add-index c = search needs
 
 mul-indexes : tie.Need-mul-indexes Inv-loop μ-loop
 mul-indexes c = search needs
@@ -47,6 +52,7 @@ indexes-of-spec =
     loop-holds
     add-number16
     number16-requires
+    add-index
     mul-indexes
     array-write-indexes
     add-k

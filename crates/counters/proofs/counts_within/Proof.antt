@@ -11,9 +11,6 @@ returns c = let k = c .before .args .c in rw (lt-leb 1 (k .next) (omega arith))
 returns-2 : tie.Need-returns-2
 returns-2 c = let k = c .before .before .args .c in rw (le-leb 1 (k .next) (omega arith), lt-leb (k .next) (k .groups) (omega arith))
 
-cast-if3 : tie.Need-cast-if3
-cast-if3 c = search needs
-
 returns-3 : tie.Need-returns-3
 returns-3 c =
     let k = c .before .before .before .before .args .c in
@@ -34,4 +31,4 @@ returns-4 c =
     (c .groups-within .ensures)
 
 pub counts-within-spec : {M : Type 1} → statement M
-counts-within-spec = tie.close (tie.spec returns returns-2 cast-if3 returns-3 groups-within-requires returns-4)
+counts-within-spec = tie.close (tie.spec returns returns-2 returns-3 groups-within-requires returns-4)

@@ -1,6 +1,5 @@
 -- `groups_within` is the test of the two arrays, which have eight elements each. Assumes nothing.
 use mathlib.Core.Path.{_≡_}
-use borrow.Author.Needs.{needs}
 use borrow.Author.Tests.{eq-eqb}
 use lib.ListN.{length}
 use Rattle.rules.specs.Limits.{groupsWithin}

@@ -29,9 +29,6 @@ mul-r c = search needs
 array-read-r : tie.Need-array-read-r Inv-loop μ-loop
 array-read-r c = search needs
 
-cast-if2 : tie.Need-cast-if2 Inv-loop μ-loop
-cast-if2 c = search needs
-
 returns : tie.Need-returns Inv-loop μ-loop
 returns c =
     let a = c .before .before .before .before .args in
@@ -72,7 +69,6 @@ resolution-within-spec =
     loop-holds
     mul-r
     array-read-r
-    cast-if2
     returns
     returns-2
     add-i

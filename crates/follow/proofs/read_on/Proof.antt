@@ -2,7 +2,7 @@
 use Prim.Native.Nat.{_+_}
 use native.Mathlib.Omega.{arith}
 use lib.ListN.{length-take}
-use Rattle.rounds.specs.Reads.{mostRead}
+use Rattle.standing.specs.Standing.{mostRead}
 use borrow.Author.Needs.{needs}
 use Rattle.follow.proofs.read_on.Statement.{statement}
 use Rattle.follow.proofs.read_on.Tie as tie

@@ -1,8 +1,8 @@
 -- `put` writes by the kind of line.
 -- Assumes nothing.
 use mathlib.Core.Path.{_≡_, refl, ap, sym, _∙_}
-use Rattle.follower.specs.Following.{bytesOf}
-use Rattle.follower.proofs.Unwritten.{put-nothing}
+use Rattle.following.specs.Following.{bytesOf}
+use Rattle.decimals.proofs.Stores.{put-nothing}
 use borrow.Author.Needs.{needs}
 use Rattle.follower.proofs.put.Statement.{statement}
 use Rattle.follower.proofs.put.Tie as tie

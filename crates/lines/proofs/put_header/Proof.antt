@@ -5,8 +5,9 @@ use Prim.Native.Nat.{_+_}
 use lib.ListN.{length}
 use lib.Seq.{sets}
 use borrow.Author.Tests.{leb-true}
-use Rattle.lines.specs.Lines.{recordOf, headerOf}
-use Rattle.lines.proofs.Stores.{put-fits, put-none}
+use Rattle.decimals.specs.Printing.{recordOf}
+use Rattle.lines.specs.Lines.{headerOf}
+use Rattle.decimals.proofs.Stores.{put-fits, put-none}
 use borrow.Author.Needs.{needs}
 use Rattle.lines.proofs.put_header.Statement.{statement}
 use Rattle.lines.proofs.put_header.Tie as tie

@@ -7,7 +7,7 @@ use lib.ListN.{length}
 use borrow.Author.Tests.{leb-true}
 use Rattle.lines.specs.Lines.{lineOf}
 use Rattle.lines.specs.Pieces.{slotBytes, counterBytes}
-use Rattle.lines.proofs.Stores.{Wrote, and-then, put-whole, put-none}
+use Rattle.decimals.proofs.Stores.{Wrote, and-then, put-whole, put-none}
 use Rattle.lines.proofs.LineLaws.{slot-length, counter-length, line-halves, line-length}
 use borrow.Author.Needs.{needs}
 use Rattle.lines.proofs.put_line.Statement.{statement}

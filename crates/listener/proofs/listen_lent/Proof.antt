@@ -55,10 +55,10 @@ use Rattle.rules.proofs.ListenAnswer.Laws as N′
 use Rattle.rules.proofs.Listened as D
 use Rattle.rules.proofs.Listened.Laws as D′
 use Rattle.listener.proofs.Slices.{Tokens, Slices, twice}
-use Rattle.listener.proofs.listen as listen′
-use Rattle.listener.proofs.listen.Symbol as listen-def
-use Rattle.listener.proofs.listen.Symbol.{name as #listener·listen}
-use Rattle.listener.proofs.listen.Met as listen-thm
+use Rattle.listening.proofs.listen as listen′
+use Rattle.listening.proofs.listen.Symbol as listen-def
+use Rattle.listening.proofs.listen.Symbol.{name as #listening·listen}
+use Rattle.listening.proofs.listen.Met as listen-thm
 use Rattle.listener.proofs.listen_lent.Key.{name as #listener·listen-lent}
 use Rattle.listener.proofs.listen_lent as lent′
 use Rattle.listener.proofs.listen_lent.Statement as stated
@@ -159,7 +159,7 @@ module _ {M : Type 1} (𝓤 : URA M) (H : Heap 𝓤) (A : Atoms 𝓤) (W : Given
       feqI ! (List Val) (vptr b o ∷ []) (vptr b o ∷ []) refl $ fjoin3 ! $ fjoin ! $
       frame ! $ owned ! N.the-row (Is N.the-row) (EL.makes N.the-type N′.the-plain 𝓤 H A) (listened .answer) _ is $ done !
 
-  walk : (𝓣 : Tables 𝓤 H) → Triple 𝓤 (𝓣 .C #listener·listen) (Listen 𝓤 H A at-mem run)
+  walk : (𝓣 : Tables 𝓤 H) → Triple 𝓤 (𝓣 .C #listening·listen) (Listen 𝓤 H A at-mem run)
       → ent 𝓤 (onEntry 𝓤 H A lent′.signature (κ, (κ₁, (κ₂, tt))) (q, (q₁, (q₂, tt))) a mach) (WpFn 𝓤 H (𝓣 .C) (𝓣 .Λ) fn (vptr b o ∷ only (slice-vals words) ∷ only (slice-vals counts) ∷ []) Post)
   walk 𝓣 known =
       qed W ((‵ (flft κ q) ⊛ Lifetimes) ∷ ‵ (owns (MutRef (named 0) κ R ∷ ShrSlice (named 1) κ₁ u16 ∷ ShrSlice (named 2) κ₂ u8 ∷ []) a mach) ∷ []) ∵ enter ! (𝓣 .C) (𝓣 .Λ) fn (vptr b o ∷ only (slice-vals words) ∷ only (slice-vals counts) ∷ []) _ $
@@ -188,13 +188,13 @@ module _ {M : Type 1} (𝓤 : URA M) (H : Heap 𝓤) (A : Atoms 𝓤) (W : Given
       keep ! (0 ∷ 1 ∷ 2 ∷ 3 ∷ 4 ∷ []) $ by ! (exits (LL.owed D.the-type D′.the-laws listened _ is .0))))))))))))
 
 module _ {M : Type 1} (𝓤 : URA M) (H : Heap 𝓤) (A : Atoms 𝓤) (W : Given 𝓤 H A) (at-mem : Memory → SProp 𝓤) (run : Routine → Fun 𝓤) where
-  lent-walks : (𝓣 : Tables 𝓤 H) → Triple 𝓤 (𝓣 .C #listener·listen) (Listen 𝓤 H A at-mem run) → Walks 𝓤 H A lent′.ended stayed (WpFn 𝓤 H (𝓣 .C) (𝓣 .Λ) fn) (lent′.clauses 𝓤 H A at-mem run)
+  lent-walks : (𝓣 : Tables 𝓤 H) → Triple 𝓤 (𝓣 .C #listening·listen) (Listen 𝓤 H A at-mem run) → Walks 𝓤 H A lent′.ended stayed (WpFn 𝓤 H (𝓣 .C) (𝓣 .Λ) fn) (lent′.clauses 𝓤 H A at-mem run)
   lent-walks 𝓣 known = walked 𝓤 H A lent′.ended stayed (lent′.clauses 𝓤 H A at-mem run) (WpFn 𝓤 H (𝓣 .C) (𝓣 .Λ) fn)
       (λ κs. (ptr-vals, (slice-vals, (slice-vals, tt)))) (λ κs. (mut-tells (named 0) (κs .0) R, (shr-slice-tells (named 1) (κs .1 .0) u16, (shr-slice-tells (named 2) (κs .1 .1 .0) u8, tt))))
       (λ κs qs bounds a g are. via 𝓤 _ (fst∗ 𝓤 _ (emp 𝓤)) (walk 𝓤 H A W at-mem run (κs .0) (κs .1 .0) (κs .1 .1 .0) (qs .0) (qs .1 .0) (qs .1 .1 .0) (a .0 .ptr .0) (a .0 .ptr .1) (a .0 .name) (a .0 .now) (a .1 .0) (a .1 .1 .0) (are .1 .0 .0 .1) (are .1 .1 .0 .0 .1) 𝓣 known))
 
 lent-meets : {M : Type 1} (𝓤 : URA M) (H : Heap 𝓤) (A : Atoms 𝓤) → Given 𝓤 H A → (at-mem : Memory → SProp 𝓤) (run : Routine → Fun 𝓤) (𝓣 : Tables 𝓤 H)
-    → Triple 𝓤 (𝓣 .C #listener·listen) (Listen 𝓤 H A at-mem run) → Meets 𝓤 H A lent′.signature (WpFn 𝓤 H (𝓣 .C) (𝓣 .Λ) code.function) (lent′.spec 𝓤 H A at-mem run)
+    → Triple 𝓤 (𝓣 .C #listening·listen) (Listen 𝓤 H A at-mem run) → Meets 𝓤 H A lent′.signature (WpFn 𝓤 H (𝓣 .C) (𝓣 .Λ) code.function) (lent′.spec 𝓤 H A at-mem run)
 lent-meets 𝓤 H A W at-mem run 𝓣 known =
     walk-meets 𝓤 H A lent′.ended stayed W (goes-ref 𝓤 H A W 3 0 tt (plain (λ _. R)), (goes-none-slice 𝓤 H A W 3 (1 ∷ []) tt (plain (λ _. u16)) yes, (goes-none-slice 𝓤 H A W 3 (2 ∷ []) tt (plain (λ _. u8)) yes, tt))) (lent′.clauses 𝓤 H A at-mem run)
     (WpFn 𝓤 H (𝓣 .C) (𝓣 .Λ) code.function) (WpFn-mono 𝓤 H (W .laws) 𝓣 code.function)
@@ -206,4 +206,4 @@ listen-lent-spec 𝓤 H 𝓜 𝓖 𝓡 =
     entered 𝓤 H (tripleOf 𝓤 H (𝓖 .A) lent′.signature (lent′.spec 𝓤 H (𝓖 .A) (𝓜 .mem) (𝓡 .run)))
     (tables 𝓤 H 𝓜 𝓡 code.env .C) (tables 𝓤 H 𝓜 𝓡 code.env .Λ) #listener·listen-lent code.function (code.unfolded 𝓤 H 𝓜 𝓡)
     (lent-meets 𝓤 H (𝓖 .A) (givenOf 𝓤 H 𝓜 𝓖) (𝓜 .mem) (𝓡 .run) (tablesOf 𝓤 H 𝓜 (tables 𝓤 H 𝓜 𝓡 code.env))
-    (cited 𝓤 H (Listen 𝓤 H (𝓖 .A) (𝓜 .mem) (𝓡 .run)) 𝓜 𝓡 code.env #listener·listen listen-def.routine code.calls-listener·listen (listen-thm.met 𝓤 H 𝓜 𝓖 𝓡)))
+    (cited 𝓤 H (Listen 𝓤 H (𝓖 .A) (𝓜 .mem) (𝓡 .run)) 𝓜 𝓡 code.env #listening·listen listen-def.routine code.calls-listening·listen (listen-thm.met 𝓤 H 𝓜 𝓖 𝓡)))

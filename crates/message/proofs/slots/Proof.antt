@@ -1,4 +1,4 @@
--- `message::slots` meets its contract: each return is the slot total of its case, and so has its number and slots, and (bytes + 47) / 48 is the ceiling, the least number of slots that hold the bytes.
+-- `slots` meets its contract: each return is the slot total of its case, and so has its number and slots, and (bytes + 47) / 48 is the ceiling, the least number of slots that hold the bytes.
 -- Assumes nothing.
 use mathlib.Core.Path.{sym, _∙_, ap}
 use native.Mathlib.Omega.{arith}

@@ -5,7 +5,7 @@ use lib.ListN.{length}
 use borrow.Author.Needs.{needs}
 use borrow.Author.Tests.{ne-eqb}
 use Rattle.offers.specs.Offering.{offeredOf}
-use Rattle.offers.proofs.Numbers.{passed-most, passed-found, passed-known, passed-takes}
+use Rattle.offer_numbers.proofs.Numbers.{passed-most, passed-found, passed-known, passed-takes}
 use Rattle.offers.proofs.offer.Statement.{statement}
 use Rattle.offers.proofs.offer.Tie as tie
 

@@ -1,8 +1,8 @@
 -- `take_message` writes the station with its fresh message. Assumes nothing.
 use mathlib.Core.Path.{_≡_, ap, _∙_}
 use Rattle.message.specs.Message.{slotsFor}
-use Rattle.conditions.specs.declared.offering.Taken.{Taken}
-use Rattle.conditions.specs.Taking.{takingOf}
+use Rattle.taking.specs.declared.Taken.{Taken}
+use Rattle.taking.specs.Taking.{takingOf}
 use Rattle.table.specs.Loading.{withOf}
 use borrow.Author.Needs.{needs}
 use Rattle.offers.proofs.take_message.Statement.{statement}

@@ -7,7 +7,7 @@ use Rattle.rules.specs.Hearing.{feedbackOf}
 use Rattle.rules.specs.Queueing.{passes}
 use Rattle.rules.specs.Outcome.{outcomeBy}
 use Rattle.rules.proofs.LimitLaws.{within-limits}
-use Rattle.outcomes.specs.Landable.{RowFits}
+use Rattle.newcomers.specs.Landable.{RowFits}
 use Rattle.outcomes.proofs.Fitting.{step-fits, step-passes}
 use borrow.Author.Needs.{needs}
 use Rattle.outcomes.proofs.outcome.Statement.{statement}
@@ -20,8 +20,8 @@ landings-requires : tie.Need-landings-requires
 landings-requires c κs =
     let a = c .before .before .before .before .args in
     let q = c .before .before .before .before .pre in
-    subst (λ (o : StepOne). RowFits (o .success) (o .before) (a .c .minislots) (feedbackOf (a .c .minislots) (a .row))) (sym (q .counted))
-    (step-fits (a .c) (a .row) (q .within) (q .read) (ap (λ (o : StepOne). o .fits) (sym (q .counted)) ∙ q .fits))
+    subst (λ (o : StepOne). RowFits (o .success) (o .before) (feedbackOf (a .c .minislots) (a .row))) (sym (q .counted))
+    (step-fits (a .c) (a .row) (ap (λ (o : StepOne). o .fits) (sym (q .counted)) ∙ q .fits) (q .read))
 
 fall-requires : tie.Need-fall-requires
 fall-requires c κs =

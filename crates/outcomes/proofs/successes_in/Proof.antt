@@ -1,7 +1,8 @@
 -- `successes_in` goes from the last minislot to the first. Assumes nothing.
-use Rattle.outcomes.proofs.Minislots.{successes-none, successes-more, feedback-at}
+use Rattle.outcomes.proofs.Minislots.{successes-none, successes-more}
+use Rattle.queueing.proofs.Rows.{feedback-at}
 use Rattle.rules.specs.Outcome.{successes}
-use Rattle.minislot.specs.Row.{feedbackIn}
+use Rattle.rows.specs.Row.{feedbackIn}
 use lib.ListN.{length, drop, take, length-take, length-map}
 use native.Mathlib.Omega.{arith}
 use Prim.Native.Nat.{_+_, _-_, _≤_, min}

@@ -68,9 +68,9 @@ use Rattle.pass.proofs.rounds.Met as rounds-thm
 use Rattle.sending.proofs.silence.Symbol as silence-def
 use Rattle.sending.proofs.silence.Symbol.{name as #silence}
 use Rattle.sending.proofs.silence.Met as silence-thm
-use Rattle.station.proofs.step.Symbol as step-def
-use Rattle.station.proofs.step.Symbol.{name as #step}
-use Rattle.station.proofs.step.Met as step-thm
+use Rattle.stepping.proofs.step.Symbol as step-def
+use Rattle.stepping.proofs.step.Symbol.{name as #step}
+use Rattle.stepping.proofs.step.Met as step-thm
 use Rattle.sending.proofs.gather.Symbol as gather-def
 use Rattle.sending.proofs.gather.Symbol.{name as #gather}
 use Rattle.sending.proofs.gather.Met as gather-thm
@@ -333,5 +333,5 @@ step-all-spec 𝓤 H 𝓜 𝓖 𝓡 =
     (all-meets 𝓤 H (𝓖 .A) (givenOf 𝓤 H 𝓜 𝓖) (𝓜 .mem) (𝓡 .run) (tablesOf 𝓤 H 𝓜 (tables 𝓤 H 𝓜 𝓡 code.env))
     (cited 𝓤 H (RoundsC 𝓤 H (𝓖 .A) (𝓜 .mem) (𝓡 .run)) 𝓜 𝓡 code.env #rounds rounds-def.routine code.calls-pass·rounds (rounds-thm.met 𝓤 H 𝓜 𝓖 𝓡))
     (cited 𝓤 H (SilenceC 𝓤 H (𝓖 .A) (𝓜 .mem) (𝓡 .run)) 𝓜 𝓡 code.env #silence silence-def.routine code.calls-sending·silence (silence-thm.met 𝓤 H 𝓜 𝓖 𝓡))
-    (cited 𝓤 H (StepC 𝓤 H (𝓖 .A) (𝓜 .mem) (𝓡 .run)) 𝓜 𝓡 code.env #step step-def.routine code.calls-station·step (step-thm.met 𝓤 H 𝓜 𝓖 𝓡))
+    (cited 𝓤 H (StepC 𝓤 H (𝓖 .A) (𝓜 .mem) (𝓡 .run)) 𝓜 𝓡 code.env #step step-def.routine code.calls-stepping·step (step-thm.met 𝓤 H 𝓜 𝓖 𝓡))
     (cited 𝓤 H (GatherC 𝓤 H (𝓖 .A) (𝓜 .mem) (𝓡 .run)) 𝓜 𝓡 code.env #gather gather-def.routine code.calls-sending·gather (gather-thm.met 𝓤 H 𝓜 𝓖 𝓡)))

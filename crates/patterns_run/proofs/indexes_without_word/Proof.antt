@@ -1,14 +1,12 @@
--- `patterns_run::indexes_without_word` is safe and ends: the index stays at 65536 or below, and no more are counted than were passed.
+-- `indexes_without_word` is safe and ends: the index goes up to 65536.
 -- Assumes nothing.
-use Prim.Native.Nat.{_≤_, _-_}
-use native.Mathlib.Omega.{arith}
-use mathlib.Core.Logic.{⊎-elim}
+use Prim.Native.Nat.{_-_, _≤_}
 use borrow.Author.Needs.{needs}
 use Rattle.patterns_run.proofs.indexes_without_word.Statement.{statement}
 use Rattle.patterns_run.proofs.indexes_without_word.Tie as tie
 
 abbrev Inv-loop : tie.InvT-loop
-Inv-loop count₀ index₀ count index = (index ≤ 65536) × (count ≤ index)
+Inv-loop count₀ index₀ count index = index ≤ 65536
 
 abbrev μ-loop : tie.MeasureT-loop
 μ-loop count₀ index₀ count index = 65536 - index
@@ -22,8 +20,8 @@ cast-word-of c = search needs
 word-of-requires : tie.Need-word-of-requires Inv-loop μ-loop
 word-of-requires c κs = search needs
 
-add-count : tie.Need-add-count Inv-loop μ-loop
-add-count c = search needs
+counted-requires : tie.Need-counted-requires Inv-loop μ-loop
+counted-requires c κs = search needs
 
 add-index : tie.Need-add-index Inv-loop μ-loop
 add-index c = search needs
@@ -32,7 +30,7 @@ loop-less : tie.Need-loop-less Inv-loop μ-loop
 loop-less c = search needs
 
 loop-again : tie.Need-loop-again Inv-loop μ-loop
-loop-again c = ⊎-elim (λ w. omega arith) (λ w. omega arith) (c .if1 .came)
+loop-again c = search needs
 
 returns : tie.Need-returns Inv-loop μ-loop
 returns c = search needs
@@ -46,7 +44,7 @@ indexes-without-word-spec =
     loop-holds
     cast-word-of
     word-of-requires
-    add-count
+    counted-requires
     add-index
     loop-less
     loop-again

@@ -1,29 +1,33 @@
--- `patterns_run::others` is safe and ends: the number falls short of the end until the last turn, and no more are counted than were passed.
+-- `others` is safe and ends: the number goes up to the end, which is 65536 at most.
 -- Assumes nothing.
-use Prim.Native.Nat.{_≤_, _-_}
-use native.Mathlib.Omega.{arith}
-use mathlib.Core.Logic.{⊎-elim}
+use Prim.Native.Nat.{_-_, _≤_}
 use borrow.Author.Needs.{needs}
 use Rattle.patterns_run.proofs.others.Statement.{statement}
 use Rattle.patterns_run.proofs.others.Tie as tie
 
 abbrev Inv-loop : tie.InvT-loop
-Inv-loop first end count₀ number₀ count number = (end ≤ 65536) × (count ≤ number)
+Inv-loop first end tried₀ right₀ number₀ tried right number = end ≤ 65536
 
 abbrev μ-loop : tie.MeasureT-loop
-μ-loop first end count₀ number₀ count number = end - number
+μ-loop first end tried₀ right₀ number₀ tried right number = end - number
 
 loop-holds : tie.Need-loop-holds Inv-loop μ-loop
 loop-holds c = search needs
 
-cast-is-other : tie.Need-cast-is-other Inv-loop μ-loop
-cast-is-other c = search needs
+cast-word : tie.Need-cast-word Inv-loop μ-loop
+cast-word c = search needs
 
 is-other-requires : tie.Need-is-other-requires Inv-loop μ-loop
 is-other-requires c κs = search needs
 
-add-count : tie.Need-add-count Inv-loop μ-loop
-add-count c = search needs
+plus-requires : tie.Need-plus-requires Inv-loop μ-loop
+plus-requires c κs = search needs
+
+index-of-requires : tie.Need-index-of-requires Inv-loop μ-loop
+index-of-requires c κs = search needs
+
+counted-requires : tie.Need-counted-requires Inv-loop μ-loop
+counted-requires c κs = search needs
 
 add-number : tie.Need-add-number Inv-loop μ-loop
 add-number c = search needs
@@ -32,7 +36,7 @@ loop-less : tie.Need-loop-less Inv-loop μ-loop
 loop-less c = search needs
 
 loop-again : tie.Need-loop-again Inv-loop μ-loop
-loop-again c = ⊎-elim (λ w. omega arith) (λ w. omega arith) (c .if1 .came)
+loop-again c = search needs
 
 returns : tie.Need-returns Inv-loop μ-loop
 returns c = search needs
@@ -44,9 +48,11 @@ others-spec =
     Inv-loop
     μ-loop
     loop-holds
-    cast-is-other
+    cast-word
     is-other-requires
-    add-count
+    plus-requires
+    index-of-requires
+    counted-requires
     add-number
     loop-less
     loop-again

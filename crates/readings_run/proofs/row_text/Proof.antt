@@ -1,33 +1,30 @@
--- `readings_run::row_text` is safe and ends: the place is one of the eight.
+-- `row_text` is safe and ends: the place is one of the eight.
 -- Assumes nothing.
-use Prim.Native.Nat.{_≤_, _-_}
+use Prim.Native.Nat.{_-_, _≤_}
 use borrow.Author.Needs.{needs}
 use Rattle.readings_run.proofs.row_text.Statement.{statement}
 use Rattle.readings_run.proofs.row_text.Tie as tie
 
 abbrev Inv-loop : tie.InvT-loop
-Inv-loop minislots j₀ t8 j = j ≤ 8
+Inv-loop minislots j₀ j = j ≤ 8
 
 abbrev μ-loop : tie.MeasureT-loop
-μ-loop minislots j₀ t8 j = 8 - j
+μ-loop minislots j₀ j = 8 - j
 
-slice-aggregate-text : tie.Need-slice-aggregate-text Inv-loop μ-loop
-slice-aggregate-text c = search needs
+cast-t8 : tie.Need-cast-t8 Inv-loop μ-loop
+cast-t8 c = search needs
 
-text-requires : tie.Need-text-requires Inv-loop μ-loop
-text-requires c κs = search needs
+cast-t9 : tie.Need-cast-t9 Inv-loop μ-loop
+cast-t9 c = search needs
 
-field8-requires : tie.Need-field8-requires Inv-loop μ-loop
-field8-requires c κs = search needs
+slice-aggregate-form : tie.Need-slice-aggregate-form Inv-loop μ-loop
+slice-aggregate-form c = search needs
 
-slice-aggregate-text-2 : tie.Need-slice-aggregate-text-2 Inv-loop μ-loop
-slice-aggregate-text-2 c = search needs
+slice-aggregate-form-2 : tie.Need-slice-aggregate-form-2 Inv-loop μ-loop
+slice-aggregate-form-2 c = search needs
 
-text-requires-2 : tie.Need-text-requires-2 Inv-loop μ-loop
-text-requires-2 c κs = search needs
-
-field8-requires-2 : tie.Need-field8-requires-2 Inv-loop μ-loop
-field8-requires-2 c κs = search needs
+form-requires : tie.Need-form-requires Inv-loop μ-loop
+form-requires c κs = search needs
 
 loop-holds : tie.Need-loop-holds Inv-loop μ-loop
 loop-holds c = search needs
@@ -38,14 +35,11 @@ mul-place c = search needs
 array-copy-out-place : tie.Need-array-copy-out-place Inv-loop μ-loop
 array-copy-out-place c = search needs
 
-slice-aggregate-text-3 : tie.Need-slice-aggregate-text-3 Inv-loop μ-loop
-slice-aggregate-text-3 c = search needs
+feedback-numbers-requires : tie.Need-feedback-numbers-requires Inv-loop μ-loop
+feedback-numbers-requires c κs = search needs
 
-text-requires-3 : tie.Need-text-requires-3 Inv-loop μ-loop
-text-requires-3 c κs = search needs
-
-feedback-text-requires : tie.Need-feedback-text-requires Inv-loop μ-loop
-feedback-text-requires c κs = search needs
+reading-text-requires : tie.Need-reading-text-requires Inv-loop μ-loop
+reading-text-requires c κs = search needs
 
 add-j : tie.Need-add-j Inv-loop μ-loop
 add-j c = search needs
@@ -65,18 +59,16 @@ row-text-spec =
     (tie.spec
     Inv-loop
     μ-loop
-    slice-aggregate-text
-    text-requires
-    field8-requires
-    slice-aggregate-text-2
-    text-requires-2
-    field8-requires-2
+    cast-t8
+    cast-t9
+    slice-aggregate-form
+    slice-aggregate-form-2
+    form-requires
     loop-holds
     mul-place
     array-copy-out-place
-    slice-aggregate-text-3
-    text-requires-3
-    feedback-text-requires
+    feedback-numbers-requires
+    reading-text-requires
     add-j
     loop-less
     loop-again

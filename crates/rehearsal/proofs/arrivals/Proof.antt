@@ -1,6 +1,6 @@
--- `rehearsal::arrivals` is safe and ends: the stations are passed one by one.
+-- `arrivals` is safe and ends: the station is one of the channel's.
 -- Assumes nothing.
-use Prim.Native.Nat.{_≤_, _-_}
+use Prim.Native.Nat.{_-_, _≤_}
 use borrow.Author.Needs.{needs}
 use Rattle.rehearsal.proofs.arrivals.Statement.{statement}
 use Rattle.rehearsal.proofs.arrivals.Tie as tie
@@ -26,8 +26,8 @@ index-of-requires c κs = search needs
 size-requires : tie.Need-size-requires Inv-loop μ-loop
 size-requires c κs = search needs
 
-offered-requires : tie.Need-offered-requires Inv-loop μ-loop
-offered-requires c κs = search needs
+offer-requires : tie.Need-offer-requires Inv-loop μ-loop
+offer-requires c κs = search needs
 
 add-k : tie.Need-add-k Inv-loop μ-loop
 add-k c = search needs
@@ -52,7 +52,7 @@ arrivals-spec =
     draw-requires
     index-of-requires
     size-requires
-    offered-requires
+    offer-requires
     add-k
     loop-less
     loop-again

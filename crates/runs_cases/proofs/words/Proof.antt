@@ -1,23 +1,20 @@
--- `words` is safe and ends: the place is one of sixteen.
+-- `words` is safe and ends: the place is one of 24.
 -- Assumes nothing.
 use mathlib.Core.Path.{_≡_}
-use Prim.Native.Nat.{_≤_, _-_}
+use Prim.Native.Nat.{_-_, _≤_}
 use lib.ListN.{length}
 use borrow.Author.Needs.{needs}
 use Rattle.runs_cases.proofs.words.Statement.{statement}
 use Rattle.runs_cases.proofs.words.Tie as tie
 
 abbrev Inv-loop : tie.InvT-loop
-Inv-loop g words₀ i₀ words i = (length words ≡ 16) × (i ≤ 16)
+Inv-loop g first step words₀ k₀ i₀ words k i = (length words ≡ 24) × (i ≤ 24)
 
 abbrev μ-loop : tie.MeasureT-loop
-μ-loop g words₀ i₀ words i = 16 - i
+μ-loop g first step words₀ k₀ i₀ words k i = 24 - i
 
 loop-holds : tie.Need-loop-holds Inv-loop μ-loop
 loop-holds c = search needs
-
-add-number16 : tie.Need-add-number16 Inv-loop μ-loop
-add-number16 c = search needs
 
 number16-requires : tie.Need-number16-requires Inv-loop μ-loop
 number16-requires c κs = search needs
@@ -27,6 +24,9 @@ mul-words c = search needs
 
 array-write-words : tie.Need-array-write-words Inv-loop μ-loop
 array-write-words c = search needs
+
+add-k : tie.Need-add-k Inv-loop μ-loop
+add-k c = search needs
 
 add-i : tie.Need-add-i Inv-loop μ-loop
 add-i c = search needs
@@ -47,10 +47,10 @@ words-spec =
     Inv-loop
     μ-loop
     loop-holds
-    add-number16
     number16-requires
     mul-words
     array-write-words
+    add-k
     add-i
     loop-less
     loop-again

@@ -3,13 +3,13 @@ use mathlib.Core.Path.{_≡_, sym, ap, subst, _∙_}
 use borrow.Author.Needs.{needs}
 use borrow.Author.Tests.{not-true, not-false}
 use Rattle.minislot.specs.declared.RowReading.{RowReading}
-use Rattle.minislot.specs.Row.{weight}
+use Rattle.rows.specs.Row.{weight}
 use Rattle.rules.specs.declared.Outcome.{Outcome}
 use Rattle.rules.specs.declared.StepOne.{StepOne}
 use Rattle.rules.specs.Hearing.{feedbackOf, ReadRow}
 use Rattle.rules.specs.Outcome.{outcomeOf}
 use Rattle.rules.specs.Queueing.{stepOneOf}
-use Rattle.slots.specs.Heard.{groupRead}
+use Rattle.wire_hearing.specs.GroupRead.{groupRead}
 use Rattle.slots.proofs.Rows.{row-read, on-17, on-11, on-7, on-goes}
 use Rattle.slots.proofs.judge_sound.Statement.{statement}
 use Rattle.slots.proofs.judge_sound.Tie as tie

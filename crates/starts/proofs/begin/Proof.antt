@@ -5,7 +5,7 @@ use borrow.Author.Needs.{needs}
 use borrow.Author.Tests.{ne-eqb}
 use Rattle.calls.proofs.ByValue.{few-true}
 use Rattle.starts.specs.Starting.{beginningOf}
-use Rattle.starts.proofs.Numbers.{start-passed}
+use Rattle.start_numbers.proofs.Numbers.{start-passed}
 use Rattle.starts.proofs.begin.Statement.{statement}
 use Rattle.starts.proofs.begin.Tie as tie
 

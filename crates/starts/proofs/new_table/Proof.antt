@@ -6,7 +6,7 @@ use borrow.Author.Needs.{needs}
 use lib.ListN.{length, length-map}
 use Rattle.rules.specs.declared.Station.{Station}
 use Rattle.rules.specs.StationCalls.{startStation}
-use Rattle.rules.specs.ChannelCalls.{newStations}
+use Rattle.channel_rules.specs.ChannelCalls.{newStations}
 use Rattle.table.specs.declared.Loaded.{Loaded}
 use Rattle.table.specs.Loading.{of, withOf}
 use Rattle.table.proofs.Loading.{readTo, readTo-none, readTo-more, readTo-whole}

@@ -1,21 +1,21 @@
--- `bench::kinds::table_of` is safe and ends: the station is one of the 64.
+-- `kinds::table_of` is safe and ends: the station is one of the 64.
 -- Assumes nothing.
-use Prim.Native.Nat.{_≤_, _-_}
+use Prim.Native.Nat.{_-_, _≤_}
 use borrow.Author.Needs.{needs}
 use Rattle.bench.proofs.kinds.table_of.Statement.{statement}
 use Rattle.bench.proofs.kinds.table_of.Tie as tie
 
 abbrev Inv-loop : tie.InvT-loop
-Inv-loop kind groups shared c₀ k₀ c k = k ≤ 64
+Inv-loop kind groups counters stations₀ k₀ stations k = k ≤ 64
 
 abbrev μ-loop : tie.MeasureT-loop
-μ-loop kind groups shared c₀ k₀ c k = 64 - k
+μ-loop kind groups counters stations₀ k₀ stations k = 64 - k
 
 counters-of-requires : tie.Need-counters-of-requires Inv-loop μ-loop
 counters-of-requires c κs = search needs
 
-blank-requires : tie.Need-blank-requires Inv-loop μ-loop
-blank-requires c κs = search needs
+condition-of-requires : tie.Need-condition-of-requires Inv-loop μ-loop
+condition-of-requires c κs = search needs
 
 loop-holds : tie.Need-loop-holds Inv-loop μ-loop
 loop-holds c = search needs
@@ -23,14 +23,17 @@ loop-holds c = search needs
 cast-i : tie.Need-cast-i Inv-loop μ-loop
 cast-i c = search needs
 
-mul-t10 : tie.Need-mul-t10 Inv-loop μ-loop
-mul-t10 c = search needs
+mul-t11 : tie.Need-mul-t11 Inv-loop μ-loop
+mul-t11 c = search needs
 
-condition-of-requires : tie.Need-condition-of-requires Inv-loop μ-loop
-condition-of-requires c κs = search needs
+condition-of-requires-2 : tie.Need-condition-of-requires-2 Inv-loop μ-loop
+condition-of-requires-2 c κs = search needs
 
-with-station-requires : tie.Need-with-station-requires Inv-loop μ-loop
-with-station-requires c κs = search needs
+mul-stations : tie.Need-mul-stations Inv-loop μ-loop
+mul-stations c = search needs
+
+array-set-from-stations : tie.Need-array-set-from-stations Inv-loop μ-loop
+array-set-from-stations c = search needs
 
 add-k : tie.Need-add-k Inv-loop μ-loop
 add-k c = search needs
@@ -41,17 +44,14 @@ loop-less c = search needs
 loop-again : tie.Need-loop-again Inv-loop μ-loop
 loop-again c = search needs
 
-returns : tie.Need-returns Inv-loop μ-loop
-returns c = search needs
-
 words-requires : tie.Need-words-requires Inv-loop μ-loop
 words-requires c κs = search needs
 
-asking-requires : tie.Need-asking-requires Inv-loop μ-loop
-asking-requires c κs = search needs
+wire-of-requires : tie.Need-wire-of-requires Inv-loop μ-loop
+wire-of-requires c κs = search needs
 
-returns-2 : tie.Need-returns-2 Inv-loop μ-loop
-returns-2 c = search needs
+returns : tie.Need-returns Inv-loop μ-loop
+returns c = search needs
 
 pub table-of-spec : {M : Type 1} → statement M
 table-of-spec =
@@ -60,16 +60,16 @@ table-of-spec =
     Inv-loop
     μ-loop
     counters-of-requires
-    blank-requires
+    condition-of-requires
     loop-holds
     cast-i
-    mul-t10
-    condition-of-requires
-    with-station-requires
+    mul-t11
+    condition-of-requires-2
+    mul-stations
+    array-set-from-stations
     add-k
     loop-less
     loop-again
-    returns
     words-requires
-    asking-requires
-    returns-2)
+    wire-of-requires
+    returns)

@@ -1,6 +1,6 @@
--- `channel_run::lines::table_lines` is safe and ends: the station is one of the 65.
+-- `lines::table_lines` is safe and ends: the station is one of the 65.
 -- Assumes nothing.
-use Prim.Native.Nat.{_≤_, _-_}
+use Prim.Native.Nat.{_-_, _≤_}
 use borrow.Author.Needs.{needs}
 use Rattle.channel_run.proofs.lines.table_lines.Statement.{statement}
 use Rattle.channel_run.proofs.lines.table_lines.Tie as tie
@@ -14,20 +14,14 @@ abbrev μ-loop : tie.MeasureT-loop
 least-requires : tie.Need-least-requires Inv-loop μ-loop
 least-requires c κs = search needs
 
-slice-aggregate-text : tie.Need-slice-aggregate-text Inv-loop μ-loop
-slice-aggregate-text c = search needs
+slice-aggregate-form : tie.Need-slice-aggregate-form Inv-loop μ-loop
+slice-aggregate-form c = search needs
 
-text-requires : tie.Need-text-requires Inv-loop μ-loop
-text-requires c κs = search needs
+slice-aggregate-form-2 : tie.Need-slice-aggregate-form-2 Inv-loop μ-loop
+slice-aggregate-form-2 c = search needs
 
-field-requires : tie.Need-field-requires Inv-loop μ-loop
-field-requires c κs = search needs
-
-slice-aggregate-text-2 : tie.Need-slice-aggregate-text-2 Inv-loop μ-loop
-slice-aggregate-text-2 c = search needs
-
-text-requires-2 : tie.Need-text-requires-2 Inv-loop μ-loop
-text-requires-2 c κs = search needs
+form-requires : tie.Need-form-requires Inv-loop μ-loop
+form-requires c κs = search needs
 
 loop-holds : tie.Need-loop-holds Inv-loop μ-loop
 loop-holds c = search needs
@@ -63,11 +57,9 @@ table-lines-spec =
     Inv-loop
     μ-loop
     least-requires
-    slice-aggregate-text
-    text-requires
-    field-requires
-    slice-aggregate-text-2
-    text-requires-2
+    slice-aggregate-form
+    slice-aggregate-form-2
+    form-requires
     loop-holds
     mul-s
     array-copy-out-s

@@ -1,17 +1,17 @@
 -- `recording::rows` is safe and ends: after i rows of at most 8 minislots the place is at most 160 + 8 · i, and the recording has 480.
 -- Assumes nothing.
-use Prim.Native.Nat.{_+_, _*_, _≤_, _-_}
 use mathlib.Core.Path.{_≡_}
+use Prim.Native.Nat.{_+_, _-_, _*_, _≤_}
 use lib.ListN.{length}
 use borrow.Author.Needs.{needs}
 use Rattle.listener_run.proofs.recording.rows.Statement.{statement}
 use Rattle.listener_run.proofs.recording.rows.Tie as tie
 
 abbrev Inv-loop : tie.InvT-loop
-Inv-loop way n m words counts first c₀ width at₀ i₀ t14 c at i = (i ≤ 40) × ((at ≤ 160 + 8 * i) × ((width ≤ 8) × ((length words ≡ 480) × (length counts ≡ 480))))
+Inv-loop way n m words counts first c₀ width at₀ i₀ t14 t15 c at i = (i ≤ 40) × ((at ≤ 160 + 8 * i) × ((width ≤ 8) × ((length words ≡ 480) × (length counts ≡ 480))))
 
 abbrev μ-loop : tie.MeasureT-loop
-μ-loop way n m words counts first c₀ width at₀ i₀ t14 c at i = 40 - i
+μ-loop way n m words counts first c₀ width at₀ i₀ t14 t15 c at i = 40 - i
 
 start-requires : tie.Need-start-requires Inv-loop μ-loop
 start-requires c κs = search needs
@@ -22,11 +22,14 @@ loop-holds c = search needs
 add-end : tie.Need-add-end Inv-loop μ-loop
 add-end c = search needs
 
-heard-by-requires : tie.Need-heard-by-requires Inv-loop μ-loop
-heard-by-requires c κs = search needs
+row-requires : tie.Need-row-requires Inv-loop μ-loop
+row-requires c κs = search needs
 
-way-text-requires : tie.Need-way-text-requires Inv-loop μ-loop
-way-text-requires c κs = search needs
+slice-aggregate-word : tie.Need-slice-aggregate-word Inv-loop μ-loop
+slice-aggregate-word c = search needs
+
+word-requires : tie.Need-word-requires Inv-loop μ-loop
+word-requires c κs = search needs
 
 heard-text-requires : tie.Need-heard-text-requires Inv-loop μ-loop
 heard-text-requires c κs = search needs
@@ -58,8 +61,9 @@ rows-spec =
     start-requires
     loop-holds
     add-end
-    heard-by-requires
-    way-text-requires
+    row-requires
+    slice-aggregate-word
+    word-requires
     heard-text-requires
     slice-aggregate-text
     text-requires

@@ -1,6 +1,6 @@
--- `rehearsal::totals::waiting` is safe and ends: the station is one of the 65.
+-- `totals::waiting` is safe and ends: the station is one of the 65.
 -- Assumes nothing.
-use Prim.Native.Nat.{_≤_, _-_}
+use Prim.Native.Nat.{_-_, _≤_}
 use borrow.Author.Needs.{needs}
 use Rattle.rehearsal.proofs.totals.waiting.Statement.{statement}
 use Rattle.rehearsal.proofs.totals.waiting.Tie as tie

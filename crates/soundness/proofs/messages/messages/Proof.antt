@@ -5,10 +5,10 @@ use native.Mathlib.Omega.{arith}
 use borrow.Author.Needs.{needs}
 use lib.ListN.{length}
 use mathlib.Core.Bool.{true}
-use Rattle.rules.specs.Soundness.{messagesIn}
-use Rattle.soundness.specs.Clauses.{noTableMessage}
-use Rattle.soundness.proofs.Comparing.{blank}
-use Rattle.soundness.proofs.Drawing.{Filled, filled-none, filled-one}
+use Rattle.channel_rules.specs.Soundness.{messagesIn}
+use Rattle.drawing.specs.Drawn.{noTableMessage}
+use Rattle.sound_counters.proofs.Comparing.{blank}
+use Rattle.drawing.proofs.Filling.{Filled, filled-none, filled-one}
 use Rattle.soundness.proofs.messages.messages.Statement.{statement}
 use Rattle.soundness.proofs.messages.messages.Tie as tie
 

@@ -1,0 +1,387 @@
+-- Every call of the channel is the shared table's call: records, wire and answer. That the table is sound is a hypothesis here; proofs/SoundKept
+-- discharges it. Assumes nothing.
+use mathlib.Core.Path.{_≡_, refl, sym, ap, subst, _∙_}
+use mathlib.Core.Bool.{Bool, true, false, cond}
+use mathlib.Core.List.{List, [], _∷_, map}
+use mathlib.Core.Logic.{_≢_}
+use mathlib.Core.Option.{none, some}
+use Prim.Native.Nat.{ℕ, zero, suc, _+_, _-_, _≤_, _<_}
+use native.Mathlib.Omega.{arith}
+use native.Mathlib.Nat.{zero-add}
+use lib.Dec.{eqb, ltb}
+use lib.ListN.{length, getD, set, take, length-set, length-map}
+use borrow.Author.Tests.{eqb-true, ne-eqb, le-leb, ltb-true}
+use Rattle.message.specs.Message.{fitsMessage, slotsFor}
+use Rattle.minislot.specs.declared.Minislot.{Minislot}
+use Rattle.minislot.specs.declared.Feedback.{Feedback}
+use Rattle.minislot.specs.declared.Reading.the-variants.{Heard}
+use Rattle.rows.specs.Row.{readings, firstNumber, feedbacks}
+use Rattle.rules.specs.declared.Station.{Station}
+use Rattle.rules.specs.declared.StationSlot.{StationSlot}
+use Rattle.rules.specs.declared.WireRow.{WireRow}
+use Rattle.listlaws.specs.Lists.{each}
+use Rattle.rules.specs.Limits.{between}
+use Rattle.rules.specs.Hearing.{wordsOf, countsOf}
+use Rattle.rules.specs.Queueing.{placesAfter, passes, stepOneOf}
+use Rattle.rules.specs.Turns.{turnOf}
+use Rattle.rules.specs.declared.Condition.{Condition}
+use Rattle.rules.specs.declared.Condition.the-variants.{Free, Fresh}
+use Rattle.rules.specs.StationLimits.{stationWithin}
+use Rattle.rules.specs.OwnHearing.{hearsItself}
+use Rattle.rules.specs.Refusing.{unless, byNumber}
+use Rattle.rules.specs.StationCalls.{isFree, withCondition, noStation, takingNumberOf}
+use Rattle.channel_rules.specs.Soundness.{tableCounters, recordsWithin, soundTable}
+use Rattle.channel_rules.specs.ChannelCalls.{Channel, ChannelResult, blankRow, hasStations, refused, positionOf, stationOf, takenAt, channelOfferNumberOf, channelOfferOf, heardRow, feedbackHeard, slotsOf, slotsHeard, outcomeHeard, newRow, dataSent, sentOf, loneIndex, loneSegment, deliveredNow, slotAnswer, slotThrough, channelSlotNumberOf, channelSlotOf, channelCall}
+use Rattle.rules.specs.declared.Answer.the-variants.{Refused, Taken}
+use Rattle.rules.specs.Calls.{Start, index, Call, Offer, Slot}
+use Rattle.rules.specs.Plain.{Plain, plainSettled, stationFrom, inRange}
+use Rattle.rules.proofs.QueueingLaws.{fits-cond}
+use Rattle.rules.proofs.Views.{Sender, eqb-self}
+use Rattle.rules.proofs.Clauses.{asks, serves, requestSender}
+use Rattle.rules.proofs.Shared.{Table, gather, askedSender, senderIf, tableRefuse, tableAccept, tableOffer, tableRow, tablePlaces, tableSuccess, tableWent, tableSends, tableAnswer, tableSlot, tableSettled, tableCall, tableCondition}
+use Rattle.rules.proofs.Relation.{Fits, Same}
+use Rattle.rules.proofs.ServeViews.{asks-fits}
+use Rattle.rules.proofs.SlotStep.{and-both, went-cong, settled-eq, turn-eq, settled-fits, senders-eq}
+use Rattle.rules.proofs.CallStep.{is-free, picks-ok}
+use Rattle.channel_rules.proofs.Requested.{wire-here, wire-far}
+use Rattle.rules.proofs.WireRows.{AsksOnce, minislotRow, length-row, take-row, row-cong, row-reads, heard-number, heard-feedbacks}
+use Rattle.rules.proofs.OwnHears.{hears-row}
+use Rattle.rules.proofs.Walking.{IsStation, AreStations, get-set, tableQueued, tableSettledBy, queued-is, success-is, slot-passes, offer-is}
+use Rattle.channel_rules.proofs.EmbodySlot.{asData, Through, AllThrough, walk-are, data-are, row-are}
+use Rattle.channel_rules.proofs.Gathering.{slots-length}
+use Rattle.channel_rules.proofs.SoundTests.{sound-tests}
+use Rattle.channel_rules.proofs.SoundMeans.{all-at}
+use Rattle.channel_rules.proofs.Embody.{Embodies, Embodied, GoodStart, fits-placed, asks-once, set-self, positionIn, position-map, position-eq, picks-same, lone-index-is, lone-segment-is, one-served, both, names-are, feedback-is, station-at, same-length}
+use Rattle.rules.specs.Outcome.{successes, outcomeBy, outcomeOf}
+
+module _ (S : Start) (G : GoodStart S) (p : Plain) (t : Table) (R : Same S p t) (ch : Channel) (E : Embodies S t ch) (sound : soundTable (ch .stations) (ch .wire) ≡ true) where
+  K : ℕ
+  K = length (S .indexes)
+
+  gl : 1 ≤ t .next
+  gl = rw (R .next) (R .low)
+
+  gh : t .next ≤ 8
+  gh = omega (arith, R .next, R .high, G .n-high)
+
+  is-first : IsStation S t 0 (getD (ch .stations) 0 noStation)
+  is-first = station-at S t 0 (ch .stations) (E .stations) 0 (omega (arith, (same-length S t ch E), G .some))
+
+  here : hasStations (ch .stations) ≡ true
+  here = rw (le-leb 1 (length (ch .stations)) (omega (arith, (same-length S t ch E), G .some)), le-leb (length (ch .stations)) 64 (omega (arith, (same-length S t ch E), G .few)))
+
+  within-all : each stationWithin (ch .stations) ≡ true
+  unfolding recordsWithin
+  within-all = sound-tests (ch .stations) (ch .wire) sound .within
+
+  -- ---- the row heard
+
+  abbrev askedHere : ℕ → ℕ → List Sender
+  askedHere j k = askedSender (t .next) j k (t .condition k)
+
+  once : (j k : ℕ) → AsksOnce k (askedSender (t .next) j k (t .condition k))
+  once j k = asks-once S p k (R .message k) (t .next) j (t .condition k) (R .agrees k)
+
+  abbrev wireRow : List Minislot
+  wireRow = minislotRow (index S) (length (S .indexes)) (λ j k. askedSender (t .next) j k (t .condition k)) (S .m) 1
+
+  heard-row : heardRow ch ≡ wireRow
+  unfolding heardRow
+  heard-row =
+      ap (λ (n : ℕ). take n (getD (ch .wire) (tableCounters (ch .stations) .next - 1) blankRow .minislots)) (is-first .minislots)
+      ∙ ap (λ (g : ℕ). take (S .m) (getD (ch .wire) (g - 1) blankRow .minislots)) (is-first .next)
+      ∙ ap (λ (r : WireRow). take (S .m) (r .minislots)) (E .wire (t .next) gl gh)
+      ∙ take-row (index S) (length (S .indexes)) (λ j k. askedSender (t .next) j k (t .condition k)) (S .m) 8 1 (G .m-high)
+
+  row-read : readings (wordsOf wireRow) (countsOf wireRow) ≡ map Heard (tableRow S t)
+  row-read =
+      row-reads (index S) (length (S .indexes)) (G .indexes) (λ j k. askedSender (t .next) j k (t .condition k)) once (S .m) 1
+      ∙ ap (map Heard) (feedback-is (index S) (length (S .indexes)) (G .indexes) (t .condition) (t .next) once (S .m) 1)
+
+  row-feedbacks : feedbacks (readings (wordsOf wireRow) (countsOf wireRow)) ≡ tableRow S t
+  row-feedbacks = ap feedbacks row-read ∙ heard-feedbacks (tableRow S t)
+
+  row-number : firstNumber (readings (wordsOf wireRow) (countsOf wireRow)) ≡ 0
+  row-number = ap firstNumber row-read ∙ heard-number (tableRow S t)
+
+  -- the lengths once the row is counted
+  pub counted : placesAfter (tableCounters (ch .stations)) (feedbacks (readings (wordsOf (heardRow ch)) (countsOf (heardRow ch)))) ≡ tableSettled S t
+  counted =
+      rw heard-row (ap (placesAfter (tableCounters (ch .stations))) row-feedbacks)
+      ∙ queued-is S t gl gh (tableRow S t) 0 (getD (ch .stations) 0 noStation) is-first
+
+  -- ---- each station hears itself as it must
+
+  hears-own : (k : ℕ) (s : Station) → k < length (S .indexes) → IsStation S t k s → hearsItself s (wordsOf wireRow) (tableRow S t) ≡ true
+  unfolding hearsItself
+  hears-own k s h a =
+      rw (a .index, a .next, a .condition) (hears-row (index S) (length (S .indexes)) k (G .indexes) h (t .condition) (R .outside) (t .next) (t .condition k) refl (S .m) 1 (omega arith))
+
+  pub own-heard : (k : ℕ) (s : Station) → k < length (S .indexes) → IsStation S t k s
+      → hearsItself s (wordsOf (heardRow ch)) (feedbacks (readings (wordsOf (heardRow ch)) (countsOf (heardRow ch)))) ≡ true
+  own-heard k s h a = rw heard-row (ap (hearsItself s (wordsOf wireRow)) row-feedbacks ∙ hears-own k s h a)
+
+  -- ---- each station's slot goes through
+
+  module _ (pick : ℕ → ℕ) (jl : (k : ℕ) → 1 ≤ pick k) (jh : (k : ℕ) → pick k ≤ S .m) (e7 : passes (tableSettled S t) ≡ false) where
+    station-through : (k : ℕ) (s : Station) → k < length (S .indexes) → IsStation S t k s → stationWithin s ≡ true → Through S t (wordsOf wireRow) (countsOf wireRow) (tableRow S t) pick k s
+    unfolding hearsItself
+    station-through k s h a w =
+        record {
+          slot =
+              slot-passes s (wordsOf wireRow) (countsOf wireRow) (tableRow S t) (pick k) w
+              (rw (a .minislots, length-map wireRow (λ (x : Minislot). x .word), length-map wireRow (λ (x : Minislot). x .count), row-length, eqb-self (S .m)))
+              (rw (a .minislots, le-leb 1 (pick k) (jl k), le-leb (pick k) (S .m) (jh k)))
+              row-number row-feedbacks
+              (rw (queued-is S t gl gh (tableRow S t) k s a) e7)
+              (hears-own k s h a);
+          before = fits-placed S (R .message k) (t .condition k) (R .agrees k .fits);
+          settled = fits-placed S (R .message k) (tableSettledBy t (tableRow S t) k) fit;
+          asked =
+              fits-placed S (R .message k) (asks (tableQueued t (tableRow S t) .resolution) (t .next) (pick k) (tableSettledBy t (tableRow S t) k))
+              (asks-fits S (t .next) (pick k) (R .message k) gl (omega (arith, R .next, R .high)) (jl k) (jh k) (tableQueued t (tableRow S t) .resolution) (tableSettledBy t (tableRow S t) k) fit);
+        }
+      where
+        fit : Fits S (R .message k) (tableSettledBy t (tableRow S t) k)
+        fit = settled-fits S pick jl jh p t R k
+
+        row-length : length (minislotRow (index S) (length (S .indexes)) (λ j k. askedSender (t .next) j k (t .condition k)) (S .m) 1) ≡ S .m
+        row-length = length-row (index S) (length (S .indexes)) (λ j k. askedSender (t .next) j k (t .condition k)) (S .m) 1
+
+    all-through : (j : ℕ) (l : List Station) → j + length l ≤ length (S .indexes) → AreStations S t j l → each stationWithin l ≡ true
+        → AllThrough S t gl gh (wordsOf wireRow) (countsOf wireRow) (tableRow S t) pick j l
+    all-through j [] h a w = tt
+    all-through j (s ∷ l) h a w =
+        let (x, y) = and-both (stationWithin s) (each stationWithin l) w in
+        (station-through j s (omega arith) (a .0) x, all-through (suc j) l (omega arith) (a .1) y)
+
+    -- ---- the slot
+
+    module _ (picks : List ℕ) (el : length picks ≡ length (ch .stations)) (ep : (i : ℕ) → i < length picks → getD picks i 1 ≡ pick (0 + i)) where
+      abbrev results : List StationSlot
+      results = slotsOf (wordsOf wireRow) (countsOf wireRow) (ch .stations) picks
+
+      through : AllThrough S t gl gh (wordsOf wireRow) (countsOf wireRow) (tableRow S t) pick 0 (ch .stations)
+      through = all-through 0 (ch .stations) (omega (arith, (same-length S t ch E))) (E .stations) within-all
+
+      after-are : AreStations S (tableWent S pick t (tableRow S t) (tableSuccess t (tableRow S t)) (tableSettled S t)) 0 (map (λ (r : StationSlot). r .station) results)
+      after-are = walk-are S t gl gh (wordsOf wireRow) (countsOf wireRow) (tableRow S t) pick 0 (ch .stations) picks el ep (E .stations) through
+
+      after-names : map (λ (s : Station). s .index) (map (λ (r : StationSlot). r .station) results) ≡ S .indexes
+      after-names =
+          names-are S (tableWent S pick t (tableRow S t) (tableSuccess t (tableRow S t)) (tableSettled S t)) 0 (map (λ (r : StationSlot). r .station) results) (S .indexes) after-are
+          (length-map results (λ (r : StationSlot). r .station) ∙ slots-length (wordsOf wireRow) (countsOf wireRow) (ch .stations) picks el ∙ (same-length S t ch E))
+          (λ i w. ap (index S) (sym (zero-add i)))
+
+      new-row : newRow results 8 1
+          ≡ minislotRow (index S) (length (S .indexes)) (λ i k. requestSender (tableSettled S t .resolution) (t .next) (pick k) i k (tableSettledBy t (tableRow S t) k)) 8 1
+      new-row = row-are S t gl gh (wordsOf wireRow) (countsOf wireRow) (tableRow S t) pick (ch .stations) picks el ep (E .stations) through 8 1 (omega arith) ∙ rw (same-length S t ch E)
+
+      after-wire : (g : ℕ) → 1 ≤ g → g ≤ 8
+          → getD (set (ch .wire) (tableCounters (ch .stations) .next - 1) (record { minislots = newRow results 8 1 })) (g - 1) blankRow
+          ≡ record { minislots = minislotRow (index S) (length (S .indexes)) (λ j k. askedSender g j k (tableCondition pick t (tableRow S t) (tableSuccess t (tableRow S t)) (tableSettled S t) k)) 8 1 }
+      after-wire g lo hi =
+          rw (is-first .next, new-row) (get-set (ch .wire) (t .next) g _ blankRow gl lo (omega (arith, E .groups)) ∙ go (eqb g (t .next)) refl)
+        where
+          go : (x : Bool) → eqb g (t .next) ≡ x
+              → cond x (record { minislots = minislotRow (index S) (length (S .indexes)) (λ i k. requestSender (tableSettled S t .resolution) (t .next) (pick k) i k (tableSettledBy t (tableRow S t) k)) 8 1 })
+              (getD (ch .wire) (g - 1) blankRow)
+              ≡ record { minislots = minislotRow (index S) (length (S .indexes)) (λ j k. askedSender g j k (tableCondition pick t (tableRow S t) (tableSuccess t (tableRow S t)) (tableSettled S t) k)) 8 1 }
+          go true e =
+              rw (eqb-true g (t .next) e)
+              (ap (λ (l : List Minislot). record { minislots = l })
+              (row-cong (index S) (length (S .indexes)) _ _
+              (λ j k. sym (wire-here (tableSuccess t (tableRow S t)) (t .next) (tableRow S t) (tablePlaces t) (tableSettled S t) (pick k) j k (t .condition k))) 8 1))
+          go false e =
+              E .wire g lo hi
+              ∙ ap (λ (l : List Minislot). record { minislots = l })
+              (row-cong (index S) (length (S .indexes)) _ _
+              (λ j k. sym (wire-far (tableSuccess t (tableRow S t)) (t .next) (tableRow S t) (tablePlaces t) (tableSettled S t) (pick k) j k (t .condition k) g e)) 8 1)
+
+      abbrev senders : List Sender
+      senders = gather (λ k. senderIf k (tableSends t (tableRow S t) (tableSuccess t (tableRow S t)) (tableSettled S t) k)) (length (S .indexes))
+
+      data-senders : dataSent results ≡ map (asData (index S)) senders
+      data-senders = data-are S t gl gh (wordsOf wireRow) (countsOf wireRow) (tableRow S t) pick 0 (ch .stations) picks el ep (E .stations) through ∙ rw (same-length S t ch E)
+
+      count-senders : length (dataSent results) ≡ length senders
+      count-senders = ap length data-senders ∙ length-map senders (asData (index S))
+
+      delivered : deliveredNow (turnOf (tableSettled S t)) (length senders) ≡ serves (tableSettled S t .urgent) (tableSettled S t .long)
+      delivered =
+          ap (deliveredNow (turnOf (tableSettled S t))) (sym (senders-eq S pick jl jh p t R))
+          ∙ rw (settled-eq S p t R, turn-eq (plainSettled p .urgent) (plainSettled p .long) (plainSettled p .resolution))
+          (one-served (plainSettled p .urgent) (plainSettled p .long) (plainSettled p .resolution) (p .fresh))
+
+      answer-is : slotAnswer (outcomeOf (tableCounters (ch .stations)) (tableRow S t)) (sentOf results) ≡ tableAnswer S t (tableRow S t) (tableSuccess t (tableRow S t)) (tableSettled S t)
+      unfolding outcomeBy stepOneOf
+      answer-is =
+          went-cong (ap turnOf queued) count-senders (ap loneIndex data-senders ∙ lone-index-is (index S) senders) (ap loneSegment data-senders ∙ lone-segment-is (index S) senders)
+          (rw (success-is S t gl gh (tableRow S t) 0 (getD (ch .stations) 0 noStation) is-first, queued, count-senders) (ap (λ (n : ℕ). successes (tableSuccess t (tableRow S t)) (tableRow S t) + n) delivered))
+        where
+          queued : placesAfter (tableCounters (ch .stations)) (tableRow S t) ≡ tableSettled S t
+          queued = queued-is S t gl gh (tableRow S t) 0 (getD (ch .stations) 0 noStation) is-first
+
+      slot-embodied : Embodied S (tableSlot S pick t (tableRow S t) (tableSuccess t (tableRow S t)) (tableSettled S t)) (slotThrough ch (outcomeOf (tableCounters (ch .stations)) (tableRow S t)) results)
+      unfolding outcomeBy
+      slot-embodied =
+          record {
+            state = record { stations = after-are; indexes = after-names; wire = after-wire; groups = length-set (ch .wire) (tableCounters (ch .stations) .next - 1) _ ∙ E .groups };
+            answer = answer-is;
+          }
+
+  -- ---- every call
+
+  stay-put : (n : ℕ) → Embodied S (tableRefuse t n) (refused ch n)
+  stay-put n = record { state = E; answer = refl }
+
+  -- a slot whose row is this one: 7, or what goes through
+  abbrev heardBy : List Minislot → List ℕ → ChannelResult
+  heardBy w picks =
+      let row = feedbacks (readings (wordsOf w) (countsOf w)) in
+      cond (passes (placesAfter (tableCounters (ch .stations)) row)) (refused ch 7)
+      (slotThrough ch (outcomeOf (tableCounters (ch .stations)) row) (slotsOf (wordsOf w) (countsOf w) (ch .stations) picks))
+
+  -- the channel's tests, one after the other
+  in-order : (picks : List ℕ)
+      → channelSlotOf ch picks
+      ≡ cond (eqb (length picks) (length (ch .stations)))
+      (cond (each (λ (pick : ℕ). between 1 pick (tableCounters (ch .stations) .minislots)) picks) (heardBy (heardRow ch) picks) (refused ch 11))
+      (refused ch 17)
+  unfolding channelSlotOf channelSlotNumberOf
+  in-order picks =
+      rw (here, sound)
+      (go (eqb (length picks) (length (ch .stations))) (each (λ (pick : ℕ). between 1 pick (tableCounters (ch .stations) .minislots)) picks)
+      (stepOneOf (tableCounters (ch .stations)) (feedbackHeard ch) .fits) (slotThrough ch (outcomeHeard ch) (slotsHeard ch picks))
+      ∙ ap (λ (r : ChannelResult).
+      cond (eqb (length picks) (length (ch .stations)))
+      (cond (each (λ (pick : ℕ). between 1 pick (tableCounters (ch .stations) .minislots)) picks) r (refused ch 11))
+      (refused ch 17))
+      (fits-cond (tableCounters (ch .stations)) (feedbackHeard ch) _ _))
+    where
+      go : (a b c : Bool) (x : ChannelResult)
+          → byNumber (unless a 17 (unless b 11 (unless c 7 0))) (refused ch) x ≡ cond a (cond b (cond c x (refused ch 7)) (refused ch 11)) (refused ch 17)
+      go true true true x = refl
+      go true true false x = refl
+      go true false c x = refl
+      go false b c x = refl
+
+  slot-call : (picks : List ℕ) → Embodied S (tableCall S t (Slot picks)) (channelSlotOf ch picks)
+  slot-call picks =
+      subst (Embodied S (tableCall S t (Slot picks))) (sym (in-order picks))
+      (both S (eqb (length picks) (length (S .indexes))) (eqb (length picks) (length (ch .stations))) _ _ _ _ (ap (eqb (length picks)) (sym (same-length S t ch E)))
+      (λ a. both S (inRange (S .m) picks) (each (λ (pick : ℕ). between 1 pick (tableCounters (ch .stations) .minislots)) picks) _ _ _ _
+      (rw (is-first .minislots) (sym (picks-same (S .m) picks)))
+      (λ b. goes picks (eqb-true (length picks) (length (S .indexes)) a ∙ sym (same-length S t ch E)) b)
+      (λ b. stay-put 11))
+      (λ a. stay-put 17))
+    where
+      goes : (picks : List ℕ) → length picks ≡ length (ch .stations) → inRange (S .m) picks ≡ true
+          → Embodied S (cond (passes (tableSettled S t)) (tableRefuse t 7) (tableSlot S (λ k. getD picks k 1) t (tableRow S t) (tableSuccess t (tableRow S t)) (tableSettled S t))) (heardBy (heardRow ch) picks)
+      goes picks el er =
+          subst (λ (w : List Minislot). Embodied S (cond (passes (tableSettled S t)) (tableRefuse t 7) (tableSlot S (λ k. getD picks k 1) t (tableRow S t) (tableSuccess t (tableRow S t)) (tableSettled S t))) (heardBy w picks))
+          (sym heard-row)
+          (subst (λ (row : List Feedback). Embodied S (cond (passes (tableSettled S t)) (tableRefuse t 7) (tableSlot S (λ k. getD picks k 1) t (tableRow S t) (tableSuccess t (tableRow S t)) (tableSettled S t)))
+          (cond (passes (placesAfter (tableCounters (ch .stations)) row)) (refused ch 7) (slotThrough ch (outcomeOf (tableCounters (ch .stations)) row) (slotsOf (wordsOf wireRow) (countsOf wireRow) (ch .stations) picks))))
+          (sym row-feedbacks)
+          (both S (passes (tableSettled S t)) (passes (placesAfter (tableCounters (ch .stations)) (tableRow S t))) _ _ _ _
+          (ap passes (sym (queued-is S t gl gh (tableRow S t) 0 (getD (ch .stations) 0 noStation) is-first)))
+          (λ c. stay-put 7)
+          (λ c. slot-embodied (λ k. getD picks k 1) (λ k. picks-ok (S .m) (omega (arith, G .m-low)) picks er k .0) (λ k. picks-ok (S .m) (omega (arith, G .m-low)) picks er k .1) c picks el
+          (λ i h. ap (λ (x : ℕ). getD picks x 1) (sym (zero-add i))))))
+
+  -- an offer: station k
+  module _ (k : ℕ) (h : k < length (ch .stations)) where
+    abbrev it : Station
+    it = getD (ch .stations) k noStation
+
+    is-it : IsStation S t k (getD (ch .stations) k noStation)
+    is-it = subst (λ (i : ℕ). IsStation S t i (getD (ch .stations) k noStation)) (zero-add k) (station-at S t 0 (ch .stations) (E .stations) k h)
+
+    -- a record with a condition of its own, in the table with a fresh message at k
+    accept-is : (v j : ℕ) (s : Station) (c : Condition) → IsStation S t j s → c ≡ cond (eqb j k) (Fresh v) (t .condition j) → IsStation S (tableAccept t k v .state) j (withCondition s c)
+    accept-is v j s c a e =
+        record {
+          index = a .index;
+          minislots = a .minislots;
+          groups = a .groups;
+          next = a .next;
+          urgent = a .urgent;
+          long = a .long;
+          arrays = a .arrays;
+          resolution = a .resolution;
+          mark = a .mark;
+          condition = e;
+        }
+
+    -- the other stations keep theirs
+    other-is : (v j : ℕ) (s : Station) → IsStation S t j s → (j ≡ k → ⊥) → IsStation S (tableAccept t k v .state) j s
+    other-is v j s a ne = accept-is v j s (s .condition) a (a .condition ∙ rw (ne-eqb j k ne))
+
+    others-are : (v j : ℕ) (l : List Station) → AreStations S t j l → k < j → AreStations S (tableAccept t k v .state) j l
+    others-are v j [] a q = tt
+    others-are v j (s ∷ l) a q = (other-is v j s (a .0) (λ e. omega arith), others-are v (suc j) l (a .1) (omega arith))
+
+    set-are : (v i j : ℕ) (l : List Station) → AreStations S t j l → i < length l → j + i ≡ k
+        → AreStations S (tableAccept t k v .state) j (set l i (withCondition (getD l i noStation) (Fresh v)))
+    set-are v i j [] a w e = absurd (omega arith)
+    set-are v zero j (s ∷ l) a w e =
+        (accept-is v j s (Fresh v) (a .0) (rw (let q : j ≡ k = omega arith in q, eqb-self k)), others-are v (suc j) l (a .1) (omega arith))
+    set-are v (suc i) j (s ∷ l) a w e = (other-is v j s (a .0) (λ x. omega arith), set-are v i (suc j) l (a .1) (omega arith) (omega arith))
+
+    set-names : (v i : ℕ) (l : List Station) → map (λ (s : Station). s .index) (set l i (withCondition (getD l i noStation) (Fresh v))) ≡ map (λ (s : Station). s .index) l
+    set-names v i [] = refl
+    set-names v zero (s ∷ l) = refl
+    set-names v (suc i) (s ∷ l) = ap (λ (z : List ℕ). s .index ∷ z) (set-names v i l)
+
+    accepted : (v : ℕ) → t .condition k ≡ Free → Embodied S (tableAccept t k v) (record { state = record { stations = set (ch .stations) k (withCondition it (Fresh v)); wire = ch .wire }; answer = Taken v })
+    accepted v free =
+        record {
+          state =
+              record {
+                stations = set-are v k 0 (ch .stations) (E .stations) h (zero-add k);
+                indexes = set-names v k (ch .stations) ∙ E .indexes;
+                wire = λ g lo hi. E .wire g lo hi ∙ ap (λ (l : List Minislot). record { minislots = l }) (row-cong (index S) (length (S .indexes)) _ _ (λ j i. go g j i (eqb i k) refl) 8 1);
+                groups = E .groups;
+              };
+          answer = refl;
+        }
+      where
+        go : (g j i : ℕ) (b : Bool) → eqb i k ≡ b → askedSender g j i (t .condition i) ≡ askedSender g j i (cond b (Fresh v) (t .condition i))
+        go g j i true e = rw (eqb-true i k e, free)
+        go g j i false e = refl
+
+    offer-at : (bytes : ℕ) → Embodied S (tableOffer t bytes (some k)) (byNumber (takingNumberOf (it .condition) bytes) (refused ch) (takenAt ch k bytes))
+    offer-at bytes = rw (offer-is t k bytes, is-it .condition) (go (isFree (t .condition k)) refl (fitsMessage bytes))
+      where
+        go : (b : Bool) → isFree (t .condition k) ≡ b → (c : Bool)
+            → Embodied S (byNumber (unless b 9 (unless c 10 0)) (tableRefuse t) (tableAccept t k (slotsFor bytes)))
+            (byNumber (unless b 9 (unless c 10 0)) (refused ch) (takenAt ch k bytes))
+        go true e true = accepted (slotsFor bytes) (is-free (t .condition k) e)
+        go true e false = stay-put 10
+        go false e c = stay-put 9
+
+  offer-call : (x bytes : ℕ) → Embodied S (tableCall S t (Offer x bytes)) (channelOfferOf ch x bytes)
+  unfolding channelOfferOf channelOfferNumberOf
+  offer-call x bytes =
+      rw (here, sound, found)
+      (go (ltb (positionOf x (ch .stations)) (length (ch .stations))) refl)
+    where
+      in-names : (l : List Station)
+          → cond (ltb (positionIn x (map (λ (s : Station). s .index) l)) (length (map (λ (s : Station). s .index) l))) (some (0 + positionIn x (map (λ (s : Station). s .index) l))) none
+          ≡ cond (ltb (positionOf x l) (length l)) (some (positionOf x l)) none
+      in-names l = rw (← (position-map x l), length-map l (λ (s : Station). s .index), zero-add (positionOf x l))
+
+      found : stationFrom 0 (S .indexes) x ≡ cond (ltb (positionOf x (ch .stations)) (length (ch .stations))) (some (positionOf x (ch .stations))) none
+      found =
+          position-eq x (S .indexes) 0 ∙ ap (λ (l : List ℕ). cond (ltb (positionIn x l) (length l)) (some (0 + positionIn x l)) none) (sym (E .indexes)) ∙ in-names (ch .stations)
+
+      go : (b : Bool) → ltb (positionOf x (ch .stations)) (length (ch .stations)) ≡ b
+          → Embodied S (tableOffer t bytes (cond b (some (positionOf x (ch .stations))) none))
+          (byNumber (unless b 16 (takingNumberOf (stationOf ch x .condition) bytes)) (refused ch) (takenAt ch (positionOf x (ch .stations)) bytes))
+      go true e = offer-at (positionOf x (ch .stations)) (ltb-true (positionOf x (ch .stations)) (length (ch .stations)) e) bytes
+      go false e = stay-put 16
+
+  pub call-embodied : (c : Call) → Embodied S (tableCall S t c) (channelCall ch c)
+  call-embodied (Offer x bytes) = offer-call x bytes
+  call-embodied (Slot picks) = slot-call picks

@@ -1,0 +1,218 @@
+-- What follows of the relation in every state: the messages, the senders, the totals, the wire, in the words of the statement. Assumes nothing.
+use mathlib.Core.Path.{_≡_, refl, sym, ap, subst, _∙_}
+use mathlib.Core.Bool.{Bool, true, false, cond}
+use mathlib.Core.List.{List, [], _∷_, _++_, map, List·Memᴰ, List·Memᴰ·head, List·Memᴰ·tail, List·Memᴰ·cases-cons, List·Memᴰ·not-nil}
+use mathlib.Core.Logic.{_⊎_, ⊎-elim, by-cases}
+use mathlib.Core.Option.{Option, none, some}
+use Prim.Native.Nat.{ℕ, zero, suc, _+_, _-_, _≤_, _<_}
+use native.Mathlib.Omega.{arith}
+use native.Mathlib.Decide.{decLt}
+use lib.Dec.{eqb}
+use lib.ListN.{length, getD, length-append}
+use Rattle.message.specs.Message.{fitsMessage, slotsFor}
+use Rattle.requests.specs.Together.{carries, silent, joined, together}
+use Rattle.requests.proofs.Senders.{joined-comm, joined-assoc, joined-silent}
+use Rattle.rules.specs.declared.Station.{Station}
+use Rattle.listlaws.specs.Lists.{sumOf, countOf, keepIf}
+use Rattle.rules.specs.declared.Turn.{Turn}
+use Rattle.rules.specs.Serving.{waiting}
+use Rattle.rules.specs.declared.Answer.the-variants.{Refused, Went}
+use Rattle.rules.specs.Calls.{Start, index, Call, Offer, Slot}
+use Rattle.rules.specs.Messages.{Message, Segment, segment, of}
+use Rattle.rules.specs.Plain.{Plain, PlainResult, Queues, plainSettled, overflows, sent, plainCall, plainSlot, plainOffer, plainAnswers, plainRefuse, plainAccept, waits, stationFrom, inRange, joinAlone, joinMinislot, joinRow, plainSuccess, queuesOf, served, slotSum, plainAfter}
+use Rattle.channel_rules.specs.Demand3.{requestOf, noMessage, isRefusal, takenIn, deliveredIn, SendersAre}
+use Rattle.rules.proofs.Views.{Sender, requestFrom, dataFrom, seen, eqb-self, nil-cons}
+use Rattle.rules.proofs.Shared.{Table, gather, askedSender}
+use Rattle.rules.proofs.Relation.{lengths, Same, Numbered}
+use Rattle.listlaws.proofs.Totals.{total}
+use Rattle.rules.proofs.SlotStep.{segmentsSent}
+use Rattle.channel_rules.proofs.Mixing.{blend, wire-blend}
+use Rattle.rules.proofs.WireRows.{asRequest, leaves}
+use Rattle.rules.proofs.Walking.{AreStations}
+
+-- ---- messages by their number
+
+pub member : (l : List Message) (i : ℕ) → i < length l → List·Memᴰ (getD l i noMessage) l
+member [] i h = absurd (omega arith)
+member (m ∷ l) zero h = List·Memᴰ·head refl
+member (m ∷ l) (suc i) h = List·Memᴰ·tail (member l i (omega arith))
+
+pub serial-at : (l : List Message) (j : ℕ) → Numbered j l → (i : ℕ) → i < length l → getD l i noMessage .serial ≡ j + i
+serial-at [] j n i h = absurd (omega arith)
+serial-at (m ∷ l) j n zero h = n .0 ∙ omega arith
+serial-at (m ∷ l) j n (suc i) h = serial-at l (suc j) (n .1) i (omega arith) ∙ omega arith
+
+-- a message taken has a station of the table
+in-of : (m : Message) (l : List Message) → List·Memᴰ m l → of (m .station) l ≡ [] → ⊥
+in-of m [] h e = List·Memᴰ·not-nil h
+in-of m (x ∷ l) h e = ⊎-elim here (λ w. there (eqb (x .station) (m .station)) e (in-of m l w)) (List·Memᴰ·cases-cons h)
+  where
+    here : m ≡ x → ⊥
+    here w = nil-cons (sym (rw (← w, eqb-self (m .station)) at e))
+
+    there : (b : Bool) → keepIf b x (of (m .station) l) ≡ [] → (of (m .station) l ≡ [] → ⊥) → ⊥
+    there true e ih = nil-cons (sym e)
+    there false e ih = ih e
+
+pub station-of : (S : Start) (p : Plain) (t : Table) → Same S p t → (m : Message) → List·Memᴰ m (p .taken) → m .station < length (S .indexes)
+station-of S p t R m h = by-cases (decLt (m .station) (length (S .indexes))) (λ w. w) (λ w. absurd (in-of m (p .taken) h (R .strangers (m .station) (omega arith))))
+
+-- ---- the waiting total, from the records
+
+pub waiting-sum : (S : Start) (t : Table) (j : ℕ) (l : List Station) → AreStations S t j l
+    → sumOf (λ (s : Station). waiting (s .condition)) l + total j (λ k. waiting (t .condition k)) ≡ total (j + length l) (λ k. waiting (t .condition k))
+waiting-sum S t j [] a = omega (arith, ap (λ (n : ℕ). total n (λ k. waiting (t .condition k))) (let e : j ≡ j + 0 = omega arith in e))
+waiting-sum S t j (s ∷ l) a =
+    rw (a .0 .condition)
+    (omega (arith, waiting-sum S t (suc j) l (a .1), ap (λ (n : ℕ). total n (λ k. waiting (t .condition k))) (let e : suc j + length l ≡ j + suc (length l) = omega arith in e)))
+
+-- ---- the long queue, place by place
+
+pub entry-at : (q : List Segment) (i : ℕ) (d : Segment) (x : Sender) → seen (λ (y : Segment). dataFrom y ∷ []) q i ≡ x ∷ [] → dataFrom (getD q i d) ≡ x
+entry-at [] i d x e = absurd (nil-cons e)
+entry-at (y ∷ q) zero d x e = ap (λ (l : List Sender). getD l 0 x) e
+entry-at (y ∷ q) (suc i) d x e = entry-at q i d x e
+
+-- ---- the wire
+
+leaves-blend : (ix : ℕ → ℕ) (l : List Sender) → leaves ix l ≡ blend silent joined (λ s. carries (asRequest ix s)) l
+unfolding together
+leaves-blend ix [] = refl
+leaves-blend ix (x ∷ l) = ap (joined (carries (asRequest ix x))) (leaves-blend ix l)
+
+requests-blend : (S : Start) (l : List Message) → blend silent joined (λ s. carries (asRequest (index S) s)) (map requestFrom l) ≡ together (map carries (map (requestOf S) l))
+unfolding together
+requests-blend S [] = refl
+requests-blend S (x ∷ l) = ap (joined (carries (requestOf S x))) (requests-blend S l)
+
+seen-get : (q : List (List Message)) (i : ℕ) → seen (λ (l : List Message). l) q i ≡ getD q i []
+seen-get [] i = refl
+seen-get (x ∷ q) zero = refl
+seen-get (x ∷ q) (suc i) = seen-get q i
+
+pub wire-shows : (S : Start) (p : Plain) (t : Table) → Same S p t → (g i : ℕ)
+    → leaves (index S) (gather (λ k. askedSender g (suc i) k (t .condition k)) (length (S .indexes))) ≡ together (map carries (map (requestOf S) (getD (p .group g .asking) i [])))
+wire-shows S p t R g i =
+    leaves-blend (index S) (gather (λ k. askedSender g (suc i) k (t .condition k)) (length (S .indexes)))
+    ∙ wire-blend silent joined joined-silent joined-assoc joined-comm (λ s. carries (asRequest (index S) s)) S p t R g i
+    ∙ ap (λ (l : List Message). blend silent joined (λ s. carries (asRequest (index S) s)) (map requestFrom l)) (seen-get (p .group g .asking) i)
+    ∙ requests-blend S (getD (p .group g .asking) i [])
+
+-- ---- senders
+
+senders-are : (u : List Message) (l : List Segment) (r : List (List Message)) (f : List Message)
+    → SendersAre (record { urgent = length u; long = length l; resolution = length r }) (length (sent u l r f))
+senders-are (x ∷ u) l r f = record { urgent = λ h. refl; long = λ h. refl; resolve = λ a b h. absurd (omega arith) }
+senders-are [] (y ∷ l) r f = record { urgent = λ h. absurd (omega arith); long = λ h. refl; resolve = λ a b h. absurd (omega arith) }
+senders-are [] [] (x ∷ r) f = record { urgent = λ h. absurd (omega arith); long = λ h. absurd (omega arith); resolve = λ a b h. refl }
+senders-are [] [] [] f = record { urgent = λ h. absurd (omega arith); long = λ h. absurd (omega arith); resolve = λ a b h. absurd (omega arith) }
+
+-- a refusal is no answer of a slot that went through
+refused-went : {P : Type 0} {turn : Turn} {k n i s d : ℕ} → Refused k ≡ Went turn n i s d → P
+refused-went e = let z : _≡_ {A = ℕ} 0 1 = cc in absurd (omega arith)
+
+-- the senders that the plain channel's answer names
+went-senders : (S : Start) (p : Plain) (picks : List ℕ) (turn : Turn) (n i s d : ℕ) → plainCall S p (Slot picks) .answer ≡ Went turn n i s d → length (segmentsSent p) ≡ n
+went-senders S p picks turn n i s d = go (eqb (length picks) (length (S .indexes))) (inRange (S .m) picks) (overflows (plainSettled p))
+  where
+    go : (a b c : Bool) → cond a (cond b (cond c (plainRefuse p 7) (plainSlot S (λ k. getD picks k 1) p)) (plainRefuse p 11)) (plainRefuse p 17) .answer ≡ Went turn n i s d → length (segmentsSent p) ≡ n
+    go true true true = refused-went
+    go true true false = λ e. cc
+    go true false c = refused-went
+    go false b c = refused-went
+
+pub sender-rule : (S : Start) (p : Plain) (picks : List ℕ) (turn : Turn) (n i s d : ℕ) → plainCall S p (Slot picks) .answer ≡ Went turn n i s d → SendersAre (lengths (plainSettled p)) n
+sender-rule S p picks turn n i s d e =
+    subst (SendersAre (lengths (plainSettled p))) (went-senders S p picks turn n i s d e)
+    (senders-are (plainSettled p .urgent) (plainSettled p .long) (plainSettled p .resolution) (p .fresh))
+
+-- ---- numbers that never come
+
+module _ (x : ℕ) (e7 : eqb 7 x ≡ false) (e9 : eqb 9 x ≡ false) (e10 : eqb 10 x ≡ false) (e11 : eqb 11 x ≡ false) (e16 : eqb 16 x ≡ false) (e17 : eqb 17 x ≡ false) where
+  never-call : (S : Start) (p : Plain) (c : Call) → isRefusal x (plainCall S p c .answer) ≡ false
+  never-call S p (Offer i bytes) = at (stationFrom 0 (S .indexes) i)
+    where
+      go : (k : ℕ) (a b : Bool) → isRefusal x ((cond a (plainRefuse p 9) (cond b (plainAccept p (record { serial = length (p .taken); station = k; slots = slotsFor bytes })) (plainRefuse p 10))) .answer) ≡ false
+      go k true b = e9
+      go k false true = refl
+      go k false false = e10
+
+      at : (o : Option ℕ) → isRefusal x (plainOffer p bytes o .answer) ≡ false
+      at none = e16
+      at (some k) = go k (waits p k) (fitsMessage bytes)
+  never-call S p (Slot picks) = go (eqb (length picks) (length (S .indexes))) (inRange (S .m) picks) (overflows (plainSettled p))
+    where
+      go : (a b c : Bool) → isRefusal x ((cond a (cond b (cond c (plainRefuse p 7) (plainSlot S (λ k. getD picks k 1) p)) (plainRefuse p 11)) (plainRefuse p 17)) .answer) ≡ false
+      go true true true = e7
+      go true true false = refl
+      go true false c = e11
+      go false b c = e17
+
+  pub never-comes : (S : Start) (p : Plain) (calls : List Call) → countOf (isRefusal x) (plainAnswers S p calls) ≡ 0
+  never-comes S p [] = refl
+  never-comes S p (c ∷ l) = rw (never-call S p c) (omega (arith, never-comes S (plainCall S p c .state) l))
+
+-- ---- the answers' own sums
+
+sum-append : (a b : List Message) → slotSum (a ++ b) ≡ slotSum a + slotSum b
+sum-append [] b = omega arith
+sum-append (m ∷ a) b = omega (arith, sum-append a b)
+
+-- the history only grows
+alone-longer : (b o : Bool) (m : Message) (q : Queues) → length (q .history) ≤ length (joinAlone b o m q .history)
+alone-longer true true m q = omega (arith, length-append (q .history) (segment m 1 ∷ []))
+alone-longer false true m q = omega arith
+alone-longer b false m q = omega arith
+
+row-longer : (b : Bool) (row : List (List Message)) (q : Queues) → length (q .history) ≤ length (joinRow b row q .history)
+row-longer b [] q = omega arith
+row-longer b ([] ∷ row) q = row-longer b row q
+row-longer b ((m ∷ []) ∷ row) q = omega (arith, row-longer b row (joinMinislot b (m ∷ []) q), alone-longer b (eqb (m .slots) 1) m q)
+row-longer b ((m ∷ n ∷ l) ∷ row) q = row-longer b row (joinMinislot b (m ∷ n ∷ l) q)
+
+-- one call
+pub record Booked (p : Plain) (r : PlainResult) : Type 0 where
+  pub taken : slotSum (r .state .taken) ≡ slotSum (p .taken) + takenIn (r .answer)
+  pub delivered : length (r .state .history) ≡ length (p .history) + deliveredIn (r .answer)
+
+booked-refused : (p : Plain) (n : ℕ) → Booked p (plainRefuse p n)
+booked-refused p n = record { taken = omega arith; delivered = omega arith }
+
+booked-if : (p : Plain) (b : Bool) (x y : PlainResult) → Booked p x → Booked p y → Booked p (cond b x y)
+booked-if p true x y a c = a
+booked-if p false x y a c = c
+
+booked-accept : (p : Plain) (m : Message) → Booked p (plainAccept p m)
+booked-accept p m = record { taken = sum-append (p .taken) (m ∷ []) ∙ omega arith; delivered = omega arith }
+
+booked-slot : (S : Start) (pick : ℕ → ℕ) (p : Plain) → Booked p (plainSlot S pick p)
+booked-slot S pick p =
+    record {
+      taken = omega arith;
+      delivered =
+          omega (
+            arith,
+            row-longer (plainSuccess (p .group (p .next))) (p .group (p .next) .asking) (queuesOf p (p .group (p .next))),
+            length-append (plainSettled p .history) (served (plainSettled p .urgent) (plainSettled p .long)),
+          );
+    }
+
+booked-call : (S : Start) (p : Plain) (c : Call) → Booked p (plainCall S p c)
+booked-call S p (Offer i bytes) = at (stationFrom 0 (S .indexes) i)
+  where
+    at : (o : Option ℕ) → Booked p (plainOffer p bytes o)
+    at none = booked-refused p 16
+    at (some k) = booked-if p (waits p k) _ _ (booked-refused p 9) (booked-if p (fitsMessage bytes) _ _ (booked-accept p (record { serial = length (p .taken); station = k; slots = slotsFor bytes })) (booked-refused p 10))
+booked-call S p (Slot picks) =
+    booked-if p (eqb (length picks) (length (S .indexes))) _ _
+    (booked-if p (inRange (S .m) picks) _ _ (booked-if p (overflows (plainSettled p)) _ _ (booked-refused p 7) (booked-slot S (λ k. getD picks k 1) p)) (booked-refused p 11))
+    (booked-refused p 17)
+
+-- every list
+pub books-taken : (S : Start) (calls : List Call) (p : Plain) → slotSum (plainAfter S p calls .taken) ≡ slotSum (p .taken) + sumOf takenIn (plainAnswers S p calls)
+books-taken S [] p = omega arith
+books-taken S (c ∷ l) p = omega (arith, books-taken S l (plainCall S p c .state), booked-call S p c .taken)
+
+pub books-delivered : (S : Start) (calls : List Call) (p : Plain) → length (plainAfter S p calls .history) ≡ length (p .history) + sumOf deliveredIn (plainAnswers S p calls)
+books-delivered S [] p = omega arith
+books-delivered S (c ∷ l) p = omega (arith, books-delivered S l (plainCall S p c .state), booked-call S p c .delivered)

@@ -1,0 +1,95 @@
+-- The wire: after a slot the stations asked in a minislot are those that requested there (this group) or were asked there before (other groups).
+-- Assumes nothing.
+use mathlib.Core.Path.{_≡_, refl, sym, _∙_}
+use mathlib.Core.Bool.{Bool, true, false, cond}
+use mathlib.Core.List.{List, [], _∷_}
+use Prim.Native.Nat.{ℕ, zero, suc, _-_}
+use native.Mathlib.Omega.{arith}
+use lib.ListN.{length}
+use Rattle.rules.proofs.SettleViews.{after-ind}
+use Rattle.rules.proofs.ServeViews.{asks-view, falls-view}
+use Rattle.minislot.specs.declared.Feedback.{Feedback}
+use Rattle.rules.proofs.Clauses.{after, settle, asks, front, falls, serves, requestSender}
+use Rattle.rules.proofs.Shared.{askedSender}
+use Rattle.rules.proofs.Views.{senderAt, eqb-self}
+use Rattle.listlaws.specs.Lists.{onlyIf}
+use Rattle.rules.specs.Messages.{Message, Segment}
+use Rattle.rules.specs.Plain.{plainTurn, sent}
+use Rattle.rules.specs.declared.Condition.{Condition}
+use Rattle.rules.specs.declared.Condition.the-variants.{Free, Fresh, Asked, Resolving, Urgent, Long}
+use Rattle.rules.specs.declared.Turn.the-variants.{Open as OpenTurn}
+use Rattle.rules.specs.declared.Places.{Places}
+use borrow.Author.Tests.{eqb-true, ne-eqb, eqb-false}
+use lib.Dec.{eqb}
+
+-- step 1 leaves no station of the group asked, and no other group's station changed
+module _ (b : Bool) (g : ℕ) (row : List Feedback) (n : Places) (j k : ℕ) where
+  asked-settled : (c : Condition) → askedSender g j k (settle b g row n c) ≡ []
+  asked-settled Free = refl
+  asked-settled (Fresh t) = refl
+  asked-settled (Asked h i t) = go (eqb h g) refl
+    where
+      go : (x : Bool) → eqb h g ≡ x → askedSender g j k (cond x (after b g row n i t) (Asked h i t)) ≡ []
+      go true e = after-ind (λ (c : Condition). askedSender g j k c ≡ []) g t refl (λ x. refl) (λ x. refl) (λ x. refl) b row n i
+      go false e = rw e
+  asked-settled (Resolving h i t) = refl
+  asked-settled (Urgent i) = refl
+  asked-settled (Long f l t) = refl
+
+  asked-far : (o : ℕ) → eqb o g ≡ false → (c : Condition) → askedSender o j k (settle b g row n c) ≡ askedSender o j k c
+  asked-far o ne Free = refl
+  asked-far o ne (Fresh t) = refl
+  asked-far o ne (Asked h i t) = go (eqb h g) refl
+    where
+      go : (x : Bool) → eqb h g ≡ x → askedSender o j k (cond x (after b g row n i t) (Asked h i t)) ≡ onlyIf (eqb h o) (onlyIf (eqb i j) (senderAt k t ∷ []))
+      go true e =
+          rw (eqb-true h g e, ne-eqb g o (λ w. eqb-false o g ne (sym w)))
+          (after-ind (λ (c : Condition). askedSender o j k c ≡ []) g t refl (λ x. refl) (λ x. refl) (λ x. refl) b row n i)
+      go false e = refl
+  asked-far o ne (Resolving h i t) = refl
+  asked-far o ne (Urgent i) = refl
+  asked-far o ne (Long f l t) = refl
+
+-- step 3 puts exactly the requests on the group's wire
+asked-asks : (r g pick j k : ℕ) (c : Condition) → askedSender g j k c ≡ [] → askedSender g j k (asks r g pick c) ≡ requestSender r g pick j k c
+asked-asks zero g pick j k Free e = refl
+asked-asks zero g pick j k (Fresh t) e = rw (eqb-self g)
+asked-asks zero g pick j k (Asked h i t) e = e
+asked-asks zero g pick j k (Resolving h i t) e = refl
+asked-asks zero g pick j k (Urgent i) e = refl
+asked-asks zero g pick j k (Long f l t) e = refl
+asked-asks (suc r) g pick j k Free e = refl
+asked-asks (suc r) g pick j k (Fresh t) e = refl
+asked-asks (suc r) g pick j k (Asked h i t) e = e
+asked-asks (suc r) g pick j k (Resolving h i t) e = go (eqb h g) i
+  where
+    go : (b : Bool) (i : ℕ) → askedSender g j k (front b g pick h i t) ≡ onlyIf b (onlyIf (eqb i 1) (onlyIf (eqb pick j) (senderAt k t ∷ [])))
+    go false i = refl
+    go true zero = refl
+    go true (suc zero) = rw (eqb-self g)
+    go true (suc (suc i)) = rw (ne-eqb (suc (suc i)) 1 (λ e. omega arith))
+asked-asks (suc r) g pick j k (Urgent i) e = refl
+asked-asks (suc r) g pick j k (Long f l t) e = refl
+
+-- THE WIRE, station by station
+module _ (b : Bool) (g : ℕ) (row : List Feedback) (n : Places) (c₁ : Places) (pick j k : ℕ) (c : Condition) where
+  pub wire-here : askedSender g j k (falls (c₁ .urgent) (c₁ .long) (asks (c₁ .resolution) g pick (settle b g row n c))) ≡ requestSender (c₁ .resolution) g pick j k (settle b g row n c)
+  wire-here =
+      falls-view (askedSender g j k) (λ i. refl) (λ f l t. refl) (c₁ .urgent) (c₁ .long) (asks (c₁ .resolution) g pick (settle b g row n c))
+      ∙ asked-asks (c₁ .resolution) g pick j k (settle b g row n c) (asked-settled b g row n j k c)
+
+  pub wire-far : (o : ℕ) → eqb o g ≡ false → askedSender o j k (falls (c₁ .urgent) (c₁ .long) (asks (c₁ .resolution) g pick (settle b g row n c))) ≡ askedSender o j k c
+  wire-far o ne =
+      falls-view (askedSender o j k) (λ i. refl) (λ f l t. refl) (c₁ .urgent) (c₁ .long) (asks (c₁ .resolution) g pick (settle b g row n c))
+      ∙ asks-view g pick (askedSender o j k) (λ t. rw far) (λ h t e. rw far) (λ h x t e. refl) (c₁ .resolution) (settle b g row n c)
+      ∙ asked-far b g row n j k o ne c
+    where
+      far : eqb g o ≡ false
+      far = ne-eqb g o (λ w. eqb-false o g ne (sym w))
+
+-- exactly one station sends on an urgent or long turn, none on a resolve turn
+pub lone-sender : (u : List Message) (l : List Segment) (r : List (List Message)) (f : List Message) → (plainTurn u l r ≡ OpenTurn → ⊥) → length (sent u l r f) ≡ serves (length u) (length l)
+lone-sender (x ∷ u) l r f h = refl
+lone-sender [] (y ∷ l) r f h = refl
+lone-sender [] [] (x ∷ r) f h = refl
+lone-sender [] [] [] f h = absurd (h refl)

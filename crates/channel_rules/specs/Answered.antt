@@ -1,0 +1,32 @@
+-- What each call on a channel answers, as the paper's number and values (paper 01, "Operations and their numbers, in order of checking"):
+-- the number is that of the call's own list, and what is told with 0 stands here. proofs/NumbersHold shows that the calls' definitions
+-- answer just this. Assumes nothing.
+use mathlib.Core.List.{List, [], _∷_}
+use Prim.Native.Nat.{ℕ, _+_}
+use lib.ListN.{length}
+use Rattle.message.specs.Message.{slotsFor}
+use Rattle.rules.specs.Calls.{Call, Offer, Slot}
+use Rattle.rules.specs.Numbers.{Told}
+use Rattle.rules.specs.Answered.{told, slotTurn}
+use Rattle.channel_rules.specs.ChannelCalls.{Channel, channelStartNumberOf, channelOfferNumberOf, channelSlotNumberOf}
+use Rattle.channel_rules.specs.ChannelCalls.{slotsHeard, outcomeHeard, sentOf, deliveredNow}
+
+unfoldable pub channelStartToldOf : Channel → ℕ → ℕ → List ℕ → Told
+channelStartToldOf ch m n indexes = told (channelStartNumberOf (length (ch .stations)) m n indexes) [] []
+
+unfoldable pub channelOfferToldOf : Channel → ℕ → ℕ → Told
+channelOfferToldOf ch index bytes = told (channelOfferNumberOf ch index bytes) [] (slotsFor bytes ∷ [])
+
+-- the number of data senders, the index and segment of a lone one, and the slots delivered: those of the row heard, if it was immediate
+-- success, and those sent on an urgent or long turn
+unfoldable pub channelSlotToldOf : Channel → List ℕ → Told
+channelSlotToldOf ch picks =
+    let sent = sentOf (slotsHeard ch picks) in
+    let o = outcomeHeard ch in
+    told (channelSlotNumberOf ch picks) (slotTurn o)
+    (sent .senders ∷ sent .index ∷ sent .segment ∷ (o .delivered + deliveredNow (o .turn) (sent .senders)) ∷ [])
+
+-- any call of demand 3's list
+abbrev pub channelToldOf : Channel → Call → Told
+channelToldOf ch (Offer index bytes) = channelOfferToldOf ch index bytes
+channelToldOf ch (Slot picks) = channelSlotToldOf ch picks

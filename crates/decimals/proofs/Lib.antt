@@ -1,0 +1,4 @@
+pub mod Decimals
+pub mod Stores
+pub mod Puts
+pub mod Written

@@ -1,0 +1,5 @@
+-- Their proofs, and a worked list of calls.
+pub mod ChangesHold
+pub mod EdgesAnyHold
+pub mod EdgesHold
+pub mod Worked

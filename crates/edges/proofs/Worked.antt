@@ -1,0 +1,96 @@
+-- Worked channels, by hand-checked numbers: a list of calls on three stations in two groups, and every answer. The table's answers and the
+-- plain channel's are each computed. Shown: immediate success; two stations that collide, resolve and are served; a long message preempted by an urgent one;
+-- a Collide beside a Single; every refusal that a sound channel can give but 7. Assumes nothing.
+use mathlib.Core.Path.{_≡_, refl, _∙_}
+use mathlib.Core.List.{List, [], _∷_}
+use Prim.Native.Nat.{ℕ}
+use lib.ListN.{replicate}
+use Rattle.message.specs.Message.{fitsMessage, slotsFor, ceiling}
+use Rattle.rules.specs.declared.StartAnswer.the-variants.{Ready}
+use lib.Count.{ones, onesIn}
+use Rattle.pattern.specs.Patterns.{patterns, those, sixOnes, wordOf, indexOf, placeOf}
+use Rattle.pattern.specs.Ones.{containsOnes}
+use Rattle.minislot.specs.Reading.{readingOf}
+use Rattle.rows.specs.Row.{readings, firstNumber, feedbacks, weight}
+use Rattle.requests.specs.Together.{together}
+use Rattle.rules.specs.Limits.{groupsWithin, withinLimits}
+use Rattle.rules.specs.Queueing.{queuedRow, passes, immediateOf, placesAfter, stepOneOf}
+use Rattle.rules.specs.declared.Turn.the-variants.{Urgent as UrgentTurn, Long as LongTurn, Resolve as ResolveTurn, Open as OpenTurn}
+use Rattle.rules.specs.Turns.{turnOf}
+use Rattle.rules.specs.Falling.{fallen}
+use Rattle.rules.specs.StationLimits.{conditionWithin, stationWithin}
+use Rattle.rules.specs.OwnHearing.{hearsItself}
+use Rattle.rules.specs.Requesting.{requests, requested}
+use Rattle.rules.specs.Serving.{sends, moved}
+use Rattle.rules.specs.StationCalls.{noStation, heardSlotNumberOf, slotNumberOf, slotOf}
+use Rattle.channel_rules.specs.Soundness.{indexesDistinct, recordsWithin, sameCounters, countersShared, urgentSound, longSound, resolutionSound, askedMinislot, wireSound, soundTable}
+use Rattle.channel_rules.specs.ChannelCalls.{Channel, blankWire, channelStartNumberOf, channelStartOf, channelOfferNumberOf, channelOfferOf, heardRow, channelSlotNumberOf, channelSlotOf, channelAnswers}
+use Rattle.rules.specs.declared.Answer.{Answer}
+use Rattle.rules.specs.declared.Answer.the-variants.{Refused, Taken, Went}
+use Rattle.rules.specs.Calls.{Start, Call, Offer, Slot}
+use Rattle.rules.specs.Plain.{plainStart, plainAnswers}
+use Rattle.channel_rules.proofs.Theorem.{demand3}
+use Rattle.rules.specs.Landing.{landings}
+use Rattle.rules.specs.Outcome.{outcomeBy}
+use Rattle.rules.specs.Stepping.{settledIn, actsOf, stepOf}
+
+-- a table of three stations, whatever they hold, started with two minislots, two groups and three indexes
+abbrev table : Channel
+table = record { stations = replicate 3 noStation; wire = blankWire }
+
+abbrev indexes : List ℕ
+indexes = 7 ∷ 9 ∷ 923 ∷ []
+
+abbrev start : Start
+start = record { m = 2; n = 2; indexes = 7 ∷ 9 ∷ 923 ∷ [] }
+
+goes : channelStartOf table 2 2 indexes .answer ≡ Ready
+unfolding channelStartOf channelStartNumberOf
+goes = refl
+
+-- the picks of the three stations
+abbrev slot : ℕ → ℕ → ℕ → Call
+slot a b c = Slot (a ∷ b ∷ c ∷ [])
+
+abbrev calls : List Call
+calls =
+    -- station 1 alone (index 7): it asks and sends in an open slot of group 1; heard alone there, it is delivered
+    Offer 7 48 ∷ slot 1 1 1 ∷ slot 1 1 1 ∷ slot 1 1 1
+    -- stations 1 and 2 (1 slot and 3) collide in group 2, resolve, and are queued: H 1, N 3; the urgent one is served first
+    ∷ Offer 7 1 ∷ Offer 9 100 ∷ slot 1 1 1 ∷ slot 1 1 1 ∷ slot 1 2 1 ∷ slot 1 1 1 ∷ slot 1 1 1
+    -- station 3's message comes between: it asks in group 1 while the long message is served, and preempts it when heard, the last slot of group 1 having been no open one
+    ∷ Offer 923 1 ∷ slot 1 1 1 ∷ slot 1 1 1 ∷ slot 1 1 1 ∷ slot 1 1 1
+    -- stations 1 and 2 collide beside station 3's Single: three send, none is delivered; then 3 is served, 1 and 2 resolve
+    ∷ Offer 7 48 ∷ Offer 9 48 ∷ Offer 923 48 ∷ slot 1 1 2 ∷ slot 1 1 1 ∷ slot 1 2 1 ∷ slot 1 1 1 ∷ slot 1 1 1 ∷ slot 1 1 1 ∷ slot 1 1 1
+    -- refusals: a waiting message, no station of that index, 0 bytes, 12,241 bytes, two picks, a pick of 3, a pick of 0
+    ∷ Offer 7 12240 ∷ Offer 7 1 ∷ Offer 8 1 ∷ Offer 9 0 ∷ Offer 9 12241 ∷ Slot (1 ∷ 1 ∷ []) ∷ slot 1 3 1 ∷ slot 0 1 1
+    ∷ []
+
+abbrev answers : List Answer
+answers =
+    Taken 1 ∷ Went OpenTurn 1 7 1 0 ∷ Went OpenTurn 0 0 0 0 ∷ Went OpenTurn 0 0 0 1
+    ∷ Taken 1 ∷ Taken 3 ∷ Went OpenTurn 1 7 1 0 ∷ Went OpenTurn 0 0 0 0 ∷ Went ResolveTurn 0 0 0 0 ∷ Went OpenTurn 0 0 0 0 ∷ Went UrgentTurn 1 7 1 1
+    ∷ Taken 1 ∷ Went LongTurn 1 9 1 1 ∷ Went LongTurn 1 9 2 1 ∷ Went UrgentTurn 1 923 1 1 ∷ Went LongTurn 1 9 3 1
+    ∷ Taken 1 ∷ Taken 1 ∷ Taken 1 ∷ Went OpenTurn 3 0 0 0 ∷ Went OpenTurn 0 0 0 0 ∷ Went UrgentTurn 1 923 1 1 ∷ Went OpenTurn 0 0 0 0 ∷ Went UrgentTurn 1 7 1 1 ∷ Went UrgentTurn 1 9 1 1 ∷ Went OpenTurn 0 0 0 0
+    ∷ Taken 255 ∷ Refused 9 ∷ Refused 16 ∷ Refused 10 ∷ Refused 10 ∷ Refused 17 ∷ Refused 11 ∷ Refused 11
+    ∷ []
+
+-- on the plain channel
+plain : plainAnswers start (plainStart start) calls ≡ answers
+unfolding fitsMessage slotsFor ceiling
+plain = refl
+
+-- on the table and the wire: words, readings, soundness and all
+direct : channelAnswers (channelStartOf table 2 2 indexes .state) calls ≡ answers
+unfolding ones onesIn fitsMessage slotsFor ceiling patterns those sixOnes wordOf indexOf placeOf containsOnes readingOf readings firstNumber feedbacks weight
+    together groupsWithin withinLimits queuedRow passes immediateOf placesAfter stepOneOf turnOf fallen conditionWithin stationWithin landings outcomeBy settledIn actsOf stepOf
+    hearsItself requests requested sends moved heardSlotNumberOf slotNumberOf slotOf indexesDistinct recordsWithin sameCounters countersShared urgentSound longSound
+    resolutionSound askedMinislot wireSound soundTable channelStartNumberOf channelStartOf channelOfferNumberOf channelOfferOf heardRow channelSlotNumberOf channelSlotOf
+direct = refl
+
+-- THE WORKED CHANNELS: the table and the wire, the plain channel, and the one by the other through demand 3
+pub worked : (channelAnswers (channelStartOf table 2 2 indexes .state) calls ≡ answers) × (plainAnswers start (plainStart start) calls ≡ answers)
+worked = (direct, plain)
+
+pub worked-by-demand3 : channelAnswers (channelStartOf table 2 2 indexes .state) calls ≡ answers
+worked-by-demand3 = demand3 table 2 2 indexes goes calls .answers ∙ plain

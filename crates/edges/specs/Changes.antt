@@ -1,0 +1,73 @@
+-- How one slot changes each counter, by the row's feedback and the turn: the law that a listener's user goes by. Assumes nothing.
+use mathlib.Core.Path.{_≡_}
+use mathlib.Core.Bool.{Bool, false, cond}
+use mathlib.Core.List.{List, [], _∷_}
+use Prim.Native.Nat.{ℕ, _+_, _-_}
+use lib.Dec.{eqb}
+use lib.ListN.{getD}
+use Rattle.minislot.specs.declared.Feedback.{Feedback}
+use Rattle.minislot.specs.declared.Feedback.the-variants.{Empty, Single, Collide}
+use Rattle.rules.specs.declared.Counters.{Counters}
+use Rattle.rules.specs.Queueing.{immediateOf, placesAfter}
+use Rattle.rules.specs.declared.Turn.{Turn}
+use Rattle.rules.specs.declared.Turn.the-variants.{Urgent as UrgentTurn, Long as LongTurn, Resolve as ResolveTurn, Open as OpenTurn}
+use Rattle.rules.specs.Turns.{turnOf, isOpen}
+use Rattle.rules.specs.Falling.{fallen, following}
+
+-- what a row adds: its Singles of count 1, the slots of its other Singles, its Collides
+unfoldable pub shortSingles : List Feedback → ℕ
+shortSingles [] = 0
+shortSingles (Empty ∷ row) = shortSingles row
+shortSingles (Single i c ∷ row) = cond (eqb c 1) 1 0 + shortSingles row
+shortSingles (Collide ∷ row) = shortSingles row
+
+unfoldable pub longSlots : List Feedback → ℕ
+longSlots [] = 0
+longSlots (Empty ∷ row) = longSlots row
+longSlots (Single i c ∷ row) = cond (eqb c 1) 0 c + longSlots row
+longSlots (Collide ∷ row) = longSlots row
+
+unfoldable pub collides : List Feedback → ℕ
+collides [] = 0
+collides (Empty ∷ row) = collides row
+collides (Single i c ∷ row) = collides row
+collides (Collide ∷ row) = 1 + collides row
+
+-- what a turn takes: 1 from the queue that it serves
+abbrev pub urgentServed : Turn → ℕ
+urgentServed UrgentTurn = 1
+urgentServed LongTurn = 0
+urgentServed ResolveTurn = 0
+urgentServed OpenTurn = 0
+
+abbrev pub longServed : Turn → ℕ
+longServed UrgentTurn = 0
+longServed LongTurn = 1
+longServed ResolveTurn = 0
+longServed OpenTurn = 0
+
+-- the turn of a slot, and the record after it
+abbrev pub turnIn : Counters → List Feedback → Turn
+turnIn c row = turnOf (placesAfter c row)
+
+abbrev pub afterSlot : Counters → List Feedback → Counters
+afterSlot c row = fallen c (placesAfter c row)
+
+-- group g's RQ and mark
+abbrev pub resolutionOf : Counters → ℕ → ℕ
+resolutionOf c g = getD (c .resolution) (g - 1) 0
+
+abbrev pub markOf : Counters → ℕ → Bool
+markOf c g = getD (c .opened) (g - 1) false
+
+-- one slot of the next group: H grows by the Singles of count 1, unless success was immediate, and N by the slots of the others; each is
+-- served by its own turn; RQ of the group grows by the Collides and falls by 1 if it holds a place; its mark is whether the turn was open;
+-- the other groups' counters stay
+pub record Changes (c : Counters) (row : List Feedback) : Type 0 where
+  pub urgent : afterSlot c row .urgent + urgentServed (turnIn c row) ≡ c .urgent + cond (immediateOf c row) 0 (shortSingles row)
+  pub long : afterSlot c row .long + longServed (turnIn c row) ≡ c .long + longSlots row
+  pub resolution : resolutionOf (afterSlot c row) (c .next) ≡ resolutionOf c (c .next) + collides row - 1
+  pub mark : markOf (afterSlot c row) (c .next) ≡ isOpen (turnIn c row)
+  pub others : (g : ℕ) → (g - 1 ≡ c .next - 1 → ⊥)
+      → (resolutionOf (afterSlot c row) g ≡ resolutionOf c g) × (markOf (afterSlot c row) g ≡ markOf c g)
+  pub next : afterSlot c row .next ≡ following (c .groups) (c .next)

@@ -1,0 +1,2 @@
+pub mod StartReads
+pub mod RowNumbers

@@ -1,0 +1,11 @@
+-- `refused` keeps what is known and gives the number and the record.
+-- Assumes nothing.
+use borrow.Author.Needs.{needs}
+use Rattle.following.proofs.refused.Statement.{statement}
+use Rattle.following.proofs.refused.Tie as tie
+
+returns : tie.Need-returns
+returns c = search needs
+
+pub refused-spec : {M : Type 1} → statement M
+refused-spec = tie.close (tie.spec returns)

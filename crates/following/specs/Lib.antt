@@ -1,0 +1,3 @@
+pub mod RecordNumbers
+pub mod Following
+pub mod Steps

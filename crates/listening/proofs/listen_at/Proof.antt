@@ -1,0 +1,81 @@
+-- `listen_at` gives 18, a row's number, or what the row heard leads to; and so it answers the paper's number and turn. Assumes nothing.
+use mathlib.Core.Path.{_≡_, _∙_, sym, ap, subst}
+use lib.ListN.{take, drop}
+use Rattle.rows.specs.Row.{rowAtOf}
+use Rattle.rules.specs.Recorded.{listeningAtOf}
+use Rattle.minislot.specs.declared.RowReading.{RowReading}
+use Rattle.rules.specs.Hearing.{feedbackOf, ReadRow}
+use Rattle.rules.specs.Listening.{refusedListening, listenOf}
+use Rattle.rules.proofs.ListeningLaws.{listening-18, listening-bad, listening-heard}
+use Rattle.rules.proofs.RowReads.{read-row}
+use Rattle.listening.proofs.Tells.{listens-at}
+use borrow.Author.Needs.{needs}
+use Rattle.listening.proofs.listen_at.Statement.{statement}
+use Rattle.listening.proofs.listen_at.Tie as tie
+
+within-requires : tie.Need-within-requires
+within-requires c κs = search needs
+
+read-row-at-requires : tie.Need-read-row-at-requires
+read-row-at-requires c κs = search needs
+
+refused-requires : tie.Need-refused-requires
+refused-requires c κs = search needs
+
+returns : tie.Need-returns
+unfolding rowAtOf listeningAtOf
+returns c =
+    let a = c .before .before .before .before .before .before .before .before .args in
+    let words = take (a .c .minislots) (drop (a .start) (a .words .now)) in
+    let counts = take (a .c .minislots) (drop (a .start) (a .counts .now)) in
+    let e = c .before .before .before .read-row-at .ensures in
+    let w = sym (c .before .before .before .before .before .within .ensures) ∙ c .before .before .before .before .if1 .taken in
+    listens-at (a .c) (a .words .now) (a .counts .now) _ (a .start)
+    (c .refused .ensures ∙ rw e (listening-bad (a .c) words counts w (λ z. c .before .if2 .taken (rw e z))))
+
+listen-row-requires : tie.Need-listen-row-requires
+unfolding rowAtOf listeningAtOf
+listen-row-requires c κs =
+    let a = c .before .before .before .before .before .before .before .args in
+    let words = take (a .c .minislots) (drop (a .start) (a .words .now)) in
+    let counts = take (a .c .minislots) (drop (a .start) (a .counts .now)) in
+    let e = c .before .before .read-row-at .ensures in (
+      sym (c .before .before .before .before .within .ensures) ∙ c .before .before .before .if1 .taken,
+      rw e (read-row (a .c .minislots) words counts (rw e at (c .if2 .left))),
+    )
+
+returns-2 : tie.Need-returns-2
+unfolding rowAtOf listeningAtOf
+returns-2 c =
+    let a = c .before .before .before .before .before .before .before .before .args in
+    let words = take (a .c .minislots) (drop (a .start) (a .words .now)) in
+    let counts = take (a .c .minislots) (drop (a .start) (a .counts .now)) in
+    let e = c .before .before .before .read-row-at .ensures in
+    let w = sym (c .before .before .before .before .before .within .ensures) ∙ c .before .before .before .before .if1 .taken in
+    listens-at (a .c) (a .words .now) (a .counts .now) _ (a .start)
+    (c .listen-row .ensures ∙ rw e (listening-heard (a .c) words counts w (rw e at (c .before .if2 .left))))
+
+refused-requires-2 : tie.Need-refused-requires-2
+refused-requires-2 c κs = search needs
+
+returns-3 : tie.Need-returns-3
+unfolding rowAtOf listeningAtOf
+returns-3 c =
+    let a = c .before .before .before .before .before .args in
+    let words = take (a .c .minislots) (drop (a .start) (a .words .now)) in
+    let counts = take (a .c .minislots) (drop (a .start) (a .counts .now)) in
+    listens-at (a .c) (a .words .now) (a .counts .now) _ (a .start)
+    (c .refused2 .ensures ∙ listening-18 (a .c) words counts (sym (c .before .before .within .ensures) ∙ c .before .if1 .left))
+
+pub listen-at-spec : {M : Type 1} → statement M
+listen-at-spec =
+    tie.close
+    (tie.spec
+    within-requires
+    read-row-at-requires
+    refused-requires
+    returns
+    listen-row-requires
+    returns-2
+    refused-requires-2
+    returns-3)

@@ -1,0 +1,4 @@
+pub mod Lines
+pub mod RoundLoop
+pub mod RoundMoves
+pub mod InReads

@@ -1,9 +1,0 @@
-pub mod Cuts
-pub mod Answers
-pub mod Parts
-pub mod Pairs
-pub mod Firsts
-pub mod Rows
-pub mod Streams
-pub mod RowLaws
-pub mod Samples

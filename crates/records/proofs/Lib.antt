@@ -1,0 +1,4 @@
+pub mod Cuts
+pub mod CutAnswers
+pub mod Streams
+pub mod Samples

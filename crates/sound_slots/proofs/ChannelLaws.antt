@@ -1,0 +1,255 @@
+-- A slot on a sound table: every station's slot on the group's row of the wire goes through, by the counters that all share, so 12 never comes. The
+-- start and the shared table that the laws of demand 3 speak of are made from the records themselves. Assumes nothing.
+use mathlib.Core.Path.{_≡_, refl, sym, ap, subst, _∙_}
+use mathlib.Core.Bool.{Bool, true, false, not, cond, _&&_}
+use mathlib.Core.List.{List, [], _∷_, _++_, map}
+use mathlib.Core.Logic.{_⊎_, inl, inr, _≢_, by-cases}
+use Prim.Native.Nat.{ℕ, zero, suc, _+_, _-_, _≤_, _<_}
+use native.Mathlib.Omega.{arith}
+use native.Mathlib.Nat.{zero-add}
+use native.Mathlib.Decide.{decLt}
+use lib.Dec.{eqb, ltb, leb}
+use lib.ListN.{length, getD, set, take, length-map}
+use lib.Seq.{ext-getD}
+use borrow.Author.Tests.{eqb-true, ne-eqb, le-leb, leb-true}
+use Rattle.minislot.specs.declared.Minislot.{Minislot}
+use Rattle.minislot.specs.declared.Feedback.{Feedback}
+use Rattle.minislot.specs.declared.Reading.{Reading}
+use Rattle.minislot.specs.declared.Reading.the-variants.{Heard}
+use Rattle.rows.specs.Row.{readings, firstNumber, feedbacks}
+use Rattle.requests.specs.Together.{Request, carries, silent, together}
+use Rattle.rules.specs.declared.Counters.{Counters}
+use Rattle.rules.specs.declared.Station.{Station}
+use Rattle.rules.specs.declared.WireRow.{WireRow}
+use Rattle.rules.specs.declared.Places.{Places}
+use Rattle.listlaws.specs.Lists.{each, onlyIf, gatherOf}
+use Rattle.rules.specs.Limits.{between, withinLimits}
+use Rattle.rules.specs.Hearing.{wordsOf, countsOf}
+use Rattle.rules.specs.Queueing.{placesOf, placesAfter, immediateOf, passes}
+use Rattle.rules.specs.declared.Turn.{Turn}
+use Rattle.rules.specs.Turns.{turnOf}
+use Rattle.rules.specs.Listening.{hasRow}
+use Rattle.rules.specs.declared.Condition.{Condition}
+use Rattle.rules.specs.declared.Condition.the-variants.{Free, Fresh, Asked, Resolving, Urgent, Long}
+use Rattle.rules.specs.StationLimits.{conditionWithin, stationWithin, isTotal}
+use Rattle.rules.specs.OwnHearing.{ownMinislot, ownTotal, hearsFrom, hearsItself}
+use Rattle.rules.specs.StationCalls.{noStation, slotOf}
+use Rattle.channel_rules.specs.Soundness.{tableCounters, askedRequests, askedMinislot, soundTable}
+use Rattle.channel_rules.specs.SoundMeaning.{stationAt, Sound}
+use Rattle.channel_rules.specs.ChannelCalls.{Channel, blankRow, heardRow, slotsOf}
+use Rattle.rules.specs.Outcome.{outcomeOf}
+use Rattle.rules.specs.Stepping.{stepOf}
+use Rattle.rules.specs.Calls.{Start, index}
+use Rattle.rules.proofs.Views.{Sender, senderAt, eqb-self}
+use Rattle.rules.proofs.Shared.{Table, collect, gather, askedSender, askedRow}
+use Rattle.rules.proofs.SlotStep.{and-both}
+use Rattle.rules.proofs.WireRows.{asRequest, leaves, minislotRow, length-row, take-row, row-at, AsksOnce, Indexes, feedbackRow, row-reads, heard-number, heard-feedbacks}
+use Rattle.rules.proofs.OwnHears.{hears-row}
+use Rattle.rules.proofs.Walking.{IsStation, AreStations, slot-steps}
+use Rattle.channel_rules.proofs.Embody.{feedback-is}
+use Rattle.channel_rules.proofs.SoundKept.{asked-are}
+use Rattle.channel_rules.proofs.SoundMeans.{sound-says}
+use Rattle.rules.proofs.LimitLaws.{Within, within-limits, arrays-lengths, between-bounds, station-in}
+
+-- a condition within its limits asks nothing, or once with a total of 1 or more
+asks-once-within : (c : Counters) (g j k : ℕ) (x : Condition) → conditionWithin c x ≡ true → AsksOnce k (askedSender g j k x)
+unfolding conditionWithin
+asks-once-within c g j k Free e = inl refl
+asks-once-within c g j k (Fresh t) e = inl refl
+asks-once-within c g j k (Asked h i t) e = go (eqb h g) (eqb i j)
+  where
+    some : 1 ≤ t
+    some = between-bounds 1 t 255 (and-both (between 1 h (c .groups) && between 1 i (c .minislots)) (isTotal t) e .1) .0
+
+    go : (a b : Bool) → AsksOnce k (onlyIf a (onlyIf b (senderAt k t ∷ [])))
+    go true true = inr (t, some, refl)
+    go true false = inl refl
+    go false b = inl refl
+asks-once-within c g j k (Resolving h i t) e = inl refl
+asks-once-within c g j k (Urgent i) e = inl refl
+asks-once-within c g j k (Long f l t) e = inl refl
+
+-- ---- the start and the shared table, from the records
+
+abbrev pub startMade : List Station → Start
+startMade l = record { m = tableCounters l .minislots; n = tableCounters l .groups; indexes = map (λ (s : Station). s .index) l }
+
+abbrev pub tableMade : List Station → Table
+tableMade l =
+    record {
+      h = tableCounters l .urgent;
+      n = tableCounters l .long;
+      rq = λ g. getD (tableCounters l .resolution) (g - 1) 0;
+      opened = λ g. getD (tableCounters l .opened) (g - 1) false;
+      next = tableCounters l .next;
+      condition = λ k. getD l k noStation .condition;
+    }
+
+are-made : (S : Start) (t : Table) (j : ℕ) (l : List Station) → ((k : ℕ) → k < length l → IsStation S t (j + k) (getD l k noStation)) → AreStations S t j l
+are-made S t j [] h = tt
+are-made S t j (s ∷ l) h = (
+  subst (λ (i : ℕ). IsStation S t i s) (let e : j + 0 ≡ j = omega arith in e) (h zero (omega arith)),
+  are-made S t (suc j) l (λ k w. subst (λ (i : ℕ). IsStation S t i (getD l k noStation)) (let e : j + suc k ≡ suc j + k = omega arith in e) (h (suc k) (omega arith))),
+)
+
+index-map : (l : List Station) (k : ℕ) → getD (map (λ (s : Station). s .index) l) k 0 ≡ getD l k noStation .index
+index-map [] k = refl
+index-map (s ∷ l) zero = refl
+index-map (s ∷ l) (suc k) = index-map l k
+
+past-end : (l : List Station) (k : ℕ) → length l ≤ k → getD l k noStation ≡ noStation
+past-end [] k h = refl
+past-end (s ∷ l) zero h = absurd (omega arith)
+past-end (s ∷ l) (suc k) h = past-end l k (omega arith)
+
+module _ (stations : List Station) (wire : List WireRow) (some : 1 ≤ length stations) (sound : soundTable stations wire ≡ true) where
+  says : Sound stations wire
+  says = sound-says stations wire sound
+
+  -- the counters that all share, and their limits
+  pub first-within : withinLimits (tableCounters stations) ≡ true
+  first-within = station-in (stationAt stations 0) (says .within 0 some) .counters
+
+  pub limits : Within (tableCounters stations)
+  limits = within-limits (tableCounters stations) first-within
+
+  pub counters-shared : (k : ℕ) → k < length stations → stationAt stations k .counters ≡ tableCounters stations
+  counters-shared = says .shared
+
+  pub each-within : (k : ℕ) → k < length stations → stationWithin (stationAt stations k) ≡ true
+  each-within = says .within
+
+  pub wire-rows : (length wire ≡ 8) × ((g : ℕ) → 1 ≤ g → g ≤ 8 → length (getD wire (g - 1) blankRow .minislots) ≡ 8)
+  wire-rows = says .size
+
+  S : Start
+  S = startMade stations
+
+  t : Table
+  t = tableMade stations
+
+  same-length : length (map (λ (s : Station). s .index) stations) ≡ length stations
+  same-length = length-map stations (λ (s : Station). s .index)
+
+  is-made : (k : ℕ) → k < length stations → IsStation (startMade stations) (tableMade stations) k (getD stations k noStation)
+  is-made k h =
+      let e : getD stations k noStation .counters ≡ tableCounters stations = says .shared k h in
+      let w = arrays-lengths (tableCounters stations) (limits .arrays) in
+      record {
+        index = sym (index-map stations k);
+        minislots = ap (λ (c : Counters). c .minislots) e;
+        groups = ap (λ (c : Counters). c .groups) e;
+        next = ap (λ (c : Counters). c .next) e;
+        urgent = ap (λ (c : Counters). c .urgent) e;
+        long = ap (λ (c : Counters). c .long) e;
+        arrays = (ap (λ (c : Counters). length (c .resolution)) e ∙ w .0, ap (λ (c : Counters). length (c .opened)) e ∙ w .1);
+        resolution = λ g l u. ap (λ (c : Counters). getD (c .resolution) (g - 1) 0) e;
+        mark = λ g l u. ap (λ (c : Counters). getD (c .opened) (g - 1) false) e;
+        condition = refl;
+      }
+
+  all-made : AreStations (startMade stations) (tableMade stations) 0 stations
+  all-made = are-made (startMade stations) (tableMade stations) 0 stations (λ k h. subst (λ (i : ℕ). IsStation (startMade stations) (tableMade stations) i (getD stations k noStation)) (sym (zero-add k)) (is-made k h))
+
+  indexes : Indexes (index (startMade stations)) (length stations)
+  indexes =
+      record {
+        below = λ k h. rw (index-map stations k) (let w = station-in (stationAt stations k) (says .within k h) .index in omega arith);
+        distinct = λ i k a b e. says .distinct i k a b (sym (index-map stations i) ∙ e ∙ index-map stations k);
+      }
+
+  once : (g j k : ℕ) → AsksOnce k (askedSender g j k (getD stations k noStation .condition))
+  once g j k =
+      by-cases (decLt k (length stations))
+      (λ h. asks-once-within (stationAt stations k .counters) g j k (stationAt stations k .condition) (station-in (stationAt stations k) (says .within k h) .condition))
+      (λ h. rw (past-end stations k (omega arith)) (inl refl))
+
+  outside : (k : ℕ) → length stations ≤ k → getD stations k noStation .condition ≡ Free
+  outside k h = ap (λ (s : Station). s .condition) (past-end stations k h)
+
+  -- ---- the row on the wire, and what it reads as
+
+  abbrev pub leftRow : ℕ → ℕ → List Minislot
+  leftRow g n = minislotRow (index (startMade stations)) (length stations) (λ j k. askedSender g j k (getD stations k noStation .condition)) n 1
+
+  wire-row : (g : ℕ) → 1 ≤ g → g ≤ 8 → getD wire (g - 1) blankRow .minislots ≡ leftRow g 8
+  unfolding askedMinislot
+  wire-row g gl gh =
+      ext-getD silent (getD wire (g - 1) blankRow .minislots) (leftRow g 8)
+      (says .size .1 g gl gh ∙ sym (length-row (index (startMade stations)) (length stations) (λ j k. askedSender g j k (getD stations k noStation .condition)) 8 1))
+      (λ i h. at i (omega (arith, says .size .1 g gl gh)))
+    where
+      at : (i : ℕ) → i < 8 → getD (getD wire (g - 1) blankRow .minislots) i silent ≡ getD (leftRow g 8) i silent
+      at i h =
+          subst (λ (z : ℕ). getD (getD wire (g - 1) blankRow .minislots) z silent ≡ askedMinislot stations g (suc i)) (let e : suc i - 1 ≡ i = omega arith in e)
+          (says .wire g (suc i) gl gh (omega arith) (omega arith))
+          ∙ ap (λ (l : List Request). together (map carries l)) (asked-are (startMade stations) (tableMade stations) g (suc i) 0 stations all-made)
+          ∙ sym (row-at (index (startMade stations)) (length stations) (λ j k. askedSender g j k (getD stations k noStation .condition)) 8 1 i silent h
+          ∙ ap (λ (z : ℕ). leaves (index (startMade stations)) (gather (λ k. askedSender g z k (getD stations k noStation .condition)) (length stations))) (let e : 1 + i ≡ suc i = omega arith in e))
+
+  next-low : 1 ≤ tableCounters stations .next
+  next-low = limits .next .0
+
+  next-high : tableCounters stations .next ≤ 8
+  next-high = omega (arith, limits .next .1, limits .groups .1)
+
+  abbrev pub ch : Channel
+  ch = record { stations = stations; wire = wire }
+
+  -- the row heard, as the stations asked there left it
+  abbrev pub leftHere : List Minislot
+  leftHere = leftRow (tableCounters stations .next) (tableCounters stations .minislots)
+
+  heard-left : heardRow ch ≡ leftHere
+  unfolding heardRow
+  heard-left =
+      ap (take (tableCounters stations .minislots)) (wire-row (tableCounters stations .next) next-low next-high)
+      ∙ take-row (index (startMade stations)) (length stations) (λ j k. askedSender (tableCounters stations .next) j k (getD stations k noStation .condition)) (tableCounters stations .minislots) 8 1 (limits .minislots .1)
+
+  -- the feedback of it
+  abbrev pub askedHere : List Feedback
+  askedHere = askedRow (index (startMade stations)) (length stations) (λ k. getD stations k noStation .condition) (tableCounters stations .next) (tableCounters stations .minislots) 1
+
+  left-reads : readings (wordsOf leftHere) (countsOf leftHere) ≡ map Heard askedHere
+  left-reads =
+      row-reads (index (startMade stations)) (length stations) indexes (λ j k. askedSender (tableCounters stations .next) j k (getD stations k noStation .condition)) (once (tableCounters stations .next)) (tableCounters stations .minislots) 1
+      ∙ ap (map Heard) (feedback-is (index (startMade stations)) (length stations) indexes (λ k. getD stations k noStation .condition) (tableCounters stations .next) (once (tableCounters stations .next)) (tableCounters stations .minislots) 1)
+
+  left-feedbacks : feedbacks (readings (wordsOf leftHere) (countsOf leftHere)) ≡ askedHere
+  left-feedbacks = ap feedbacks left-reads ∙ heard-feedbacks askedHere
+
+  -- no minislot of the row is refused, and the row has m of them
+  pub row-number : firstNumber (readings (wordsOf (heardRow ch)) (countsOf (heardRow ch))) ≡ 0
+  row-number = rw heard-left (ap firstNumber left-reads ∙ heard-number askedHere)
+
+  pub row-length : length (heardRow ch) ≡ tableCounters stations .minislots
+  row-length = rw heard-left (length-row (index (startMade stations)) (length stations) (λ j k. askedSender (tableCounters stations .next) j k (getD stations k noStation .condition)) (tableCounters stations .minislots) 1)
+
+  -- the feedback that the row reads as
+  abbrev pub rowHere : List Feedback
+  rowHere = feedbacks (readings (wordsOf (heardRow ch)) (countsOf (heardRow ch)))
+
+  pub row-asked : rowHere ≡ askedHere
+  row-asked = rw heard-left left-feedbacks
+
+  -- each station hears itself: 12 never comes
+  hears : (k : ℕ) → k < length stations → hearsItself (stationAt stations k) (wordsOf (heardRow ch)) rowHere ≡ true
+  unfolding hearsItself
+  hears k h =
+      rw (row-asked, heard-left, counters-shared k h)
+      (subst (λ (i : ℕ). hearsFrom i (ownMinislot (tableCounters stations .next) (stationAt stations k .condition)) (ownTotal (stationAt stations k .condition)) 1 (wordsOf leftHere) askedHere ≡ true) (index-map stations k)
+      (hears-row (index (startMade stations)) (length stations) k indexes h (λ k. getD stations k noStation .condition) outside (tableCounters stations .next) (stationAt stations k .condition) refl (tableCounters stations .minislots) 1 (omega arith)))
+
+  -- EACH STATION'S SLOT goes through, by the shared counters
+  module _ (fits : passes (placesAfter (tableCounters stations) rowHere) ≡ false) where
+    pub station-goes : (k : ℕ) → k < length stations → (pick : ℕ) → between 1 pick (tableCounters stations .minislots) ≡ true
+        → slotOf (stationAt stations k) (wordsOf (heardRow ch)) (countsOf (heardRow ch)) pick
+        ≡ stepOf (outcomeOf (tableCounters stations) rowHere) (stationAt stations k) pick
+    station-goes k h pick w =
+        slot-steps (stationAt stations k) (wordsOf (heardRow ch)) (countsOf (heardRow ch)) rowHere pick (each-within k h)
+        (rw (counters-shared k h, length-map (heardRow ch) (λ (x : Minislot). x .word), length-map (heardRow ch) (λ (x : Minislot). x .count), row-length, eqb-self (tableCounters stations .minislots)))
+        (rw (counters-shared k h) w)
+        row-number refl
+        (rw (counters-shared k h) fits)
+        (hears k h)
+        ∙ ap (λ (c : Counters). stepOf (outcomeOf c rowHere) (stationAt stations k) pick) (counters-shared k h)
