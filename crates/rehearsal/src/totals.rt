@@ -1,6 +1,5 @@
 // What is counted of a channel's answers and waits in its stations, and a digest of answers, tables and wires.
 use local_channel::LocalChannel;
-use rules::Condition;
 use runs_records::record_numbers;
 use runs_records::wire_numbers;
 use runs_tables::least;
@@ -90,18 +89,6 @@ pub(crate) fn counted(totals: [u64; 14], told: [u64; 6]) -> [u64; 14] {
 
 // ---- what waits
 
-// The slots that wait in one station.
-fn waiting_of(k: Condition) -> u64 {
-    match k {
-        Condition::Free => 0,
-        Condition::Fresh { total } => total as u64,
-        Condition::Asked { total, .. } => total as u64,
-        Condition::Resolving { total, .. } => total as u64,
-        Condition::Urgent { .. } => 1,
-        Condition::Long { left, .. } => left as u64,
-    }
-}
-
 // The slots that wait in all stations.
 pub(crate) fn waiting(c: LocalChannel) -> u64 {
     let stations = c.stations;
@@ -111,7 +98,7 @@ pub(crate) fn waiting(c: LocalChannel) -> u64 {
     while k < end {
         let s = stations[k];
         let condition = s.condition;
-        sum = plus(sum, waiting_of(condition));
+        sum = plus(sum, serving::waiting(condition) as u64);
         k += 1;
     }
     sum

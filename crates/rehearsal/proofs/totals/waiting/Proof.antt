@@ -23,8 +23,11 @@ mul-s c = search needs
 array-copy-out-s : tie.Need-array-copy-out-s Inv-loop μ-loop
 array-copy-out-s c = search needs
 
-waiting-of-requires : tie.Need-waiting-of-requires Inv-loop μ-loop
-waiting-of-requires c κs = search needs
+waiting-requires : tie.Need-waiting-requires Inv-loop μ-loop
+waiting-requires c κs = search needs
+
+cast-plus : tie.Need-cast-plus Inv-loop μ-loop
+cast-plus c = search needs
 
 plus-requires : tie.Need-plus-requires Inv-loop μ-loop
 plus-requires c κs = search needs
@@ -51,7 +54,8 @@ waiting-spec =
     loop-holds
     mul-s
     array-copy-out-s
-    waiting-of-requires
+    waiting-requires
+    cast-plus
     plus-requires
     add-k
     loop-less
