@@ -12,6 +12,7 @@ pub struct DrawnPlaces {
     pub count: usize,
 }
 
+// The lesser of two numbers: how far a loop over a table goes, which has no more records than its array.
 pub fn least(a: usize, b: usize) -> usize
     ensures { λ r. ⌜ r ≡ min a b ⌝ }
 {
