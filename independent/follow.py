@@ -3,21 +3,17 @@
 
   follow.py               follow standard input, bytes in and bytes out
   follow.py list          each recording of the list: a line with its file's name, what is printed for it, and an empty line (crates/follow_run/stdout)
+  follow.py names         the name of each recording's file, a line each (crates/follow_run/stdin)
   follow.py write FOLDER  each recording as FOLDER/NAME.csv (crates/follow_run/data)
   follow.py try PROGRAM   run PROGRAM on each recording, by standard input, by file name and a few bytes at a time, and compare
 """
-import os
-import re
-import subprocess
 import sys
-import tempfile
-import time
+
+from plain import Refusal
+from recordings import command, lines, numbers_of, printed, zeros
 
 HEADER = b"slot,group,turn,H,N,RQ\r\n"
-
-
-class Refusal(Exception):
-    pass
+LONGEST = 128
 
 
 def minislot(word, count):
@@ -74,27 +70,8 @@ class Listener:
         return b"%d,%s,%d,%d,%d\r\n" % (g, turn.encode(), self.h, self.long, self.rq[g])
 
 
-def records(data):
-    """Each record, or None where the form is broken. CR LF ends a record; the last one is optional."""
-    while data:
-        at = data.find(b"\r\n")
-        record, data = (data, b"") if at < 0 else (data[:at], data[at + 2:])
-        if len(record) > 128 or b"\r" in record or b"\n" in record:
-            yield None
-            return
-        yield record
-
-
-FIELD = re.compile(rb"[0-9]{1,5}\Z")
-
-
 def fields_of(record, first):
-    if record is None:
-        raise Refusal(19)
-    parts = record.split(b",")
-    if not all(FIELD.match(p) for p in parts):
-        raise Refusal(19)
-    numbers = [int(p) for p in parts]
+    numbers = numbers_of(record.split(b","))
     if first and len(numbers) != 2:
         raise Refusal(19)
     if not first and any(x > (255 if i % 2 else 65535) for i, x in enumerate(numbers)):
@@ -102,34 +79,23 @@ def fields_of(record, first):
     return numbers
 
 
+class Following:
+    """A run: no listener before the first record, then one and the number of its slots."""
+    def __init__(self):
+        self.listener = None
+        self.slots = 0
+
+    def step(self, record):
+        numbers = fields_of(record, self.listener is None)
+        if self.listener is None:
+            self.listener = Listener(*numbers)
+            return b""
+        self.slots += 1
+        return b"%d," % self.slots + self.listener.row(numbers)
+
+
 def follow(data):
-    out = [HEADER]
-    listener = None
-    place = 0
-    try:
-        for record in records(data):
-            place += 1
-            numbers = fields_of(record, place == 1)
-            if place == 1:
-                listener = Listener(*numbers)
-            else:
-                out.append(b"%d," % (place - 1) + listener.row(numbers))
-        if place == 0:
-            place = 1
-            raise Refusal(19)
-    except Refusal as refusal:
-        out.append(b"refused,%d,%d\r\n" % (refusal.args[0], place))
-    return b"".join(out)
-
-
-def lines(*records):
-    return b"".join(r.encode() + b"\r\n" for r in records)
-
-
-def longest(size):
-    """A record of `size` bytes that is all fields of five digits but the last."""
-    text = b",".join([b"00000"] * (size // 6 + 1))[:size]
-    return (text[:-1] + b"0") if text.endswith(b",") else text
+    return printed(data, LONGEST, HEADER, Following().step)
 
 
 def resolution():
@@ -151,12 +117,12 @@ def cases():
     yield "cr_cr_lf", b"2,1\r\r\n"
     yield "empty_record", lines("2,1", "0,0,0,0", "", "0,0,0,0")
     yield "empty_last_record", lines("2,1", "0,0,0,0", "")
-    yield "row_of_128_bytes", b"2,1\r\n" + longest(128) + b"\r\n"
-    yield "row_of_129_bytes", b"2,1\r\n" + longest(129) + b"\r\n"
-    yield "row_of_128_bytes_at_the_end", b"2,1\r\n" + longest(128)
-    yield "row_of_129_bytes_at_the_end", b"2,1\r\n" + longest(129)
-    yield "first_of_128_bytes", longest(128) + b"\r\n"
-    yield "first_of_129_bytes", longest(129) + b"\r\n"
+    yield "row_of_128_bytes", b"2,1\r\n" + zeros(128) + b"\r\n"
+    yield "row_of_129_bytes", b"2,1\r\n" + zeros(129) + b"\r\n"
+    yield "row_of_128_bytes_at_the_end", b"2,1\r\n" + zeros(128)
+    yield "row_of_129_bytes_at_the_end", b"2,1\r\n" + zeros(129)
+    yield "first_of_128_bytes", zeros(128) + b"\r\n"
+    yield "first_of_129_bytes", zeros(129) + b"\r\n"
     yield "nul", b"2,1\r\n0,0,\x000,0\r\n"
     yield "quote", b'2,1\r\n"0",0,0,0\r\n'
     yield "space", b"2,1\r\n0, 0,0,0\r\n"
@@ -201,58 +167,5 @@ def cases():
     yield "three_groups", resolution()
 
 
-def shown(name, data):
-    return name.encode() + b".csv\n" + follow(data) + b"\n"
-
-
-def in_pieces(program, data):
-    """The output where the program gets the input in short pieces of changing size."""
-    child = subprocess.Popen([program], stdin=subprocess.PIPE, stdout=subprocess.PIPE)
-    at, size = 0, 1
-    try:
-        while at < len(data) and at < 400:
-            child.stdin.write(data[at:at + size])
-            child.stdin.flush()
-            time.sleep(0.001)
-            at, size = at + size, size % 7 + 1
-        child.stdin.write(data[at:])
-        child.stdin.close()
-    except BrokenPipeError:
-        pass
-    return child.stdout.read()
-
-
-def attempt(program):
-    bad = 0
-    for name, data in cases():
-        want = follow(data)
-        with tempfile.NamedTemporaryFile() as f:
-            f.write(data)
-            f.flush()
-            by_input = subprocess.run([program], input=data, capture_output=True)
-            by_name = subprocess.run([program, f.name], capture_output=True)
-        for how, got, said in (("input", by_input.stdout, by_input.stderr), ("file", by_name.stdout, by_name.stderr), ("pieces", in_pieces(program, data), b"")):
-            if got != want or said:
-                bad += 1
-                print("differs:", name, how, got[-80:], want[-80:], said)
-    print("%d cases, %d differ" % (len(list(cases())), bad))
-    return bad
-
-
-def main(argv):
-    if len(argv) < 2:
-        sys.stdout.buffer.write(follow(sys.stdin.buffer.read()))
-    elif argv[1] == "list":
-        for name, data in cases():
-            sys.stdout.buffer.write(shown(name, data))
-    elif argv[1] == "write":
-        for name, data in cases():
-            with open(os.path.join(argv[2], name + ".csv"), "wb") as f:
-                f.write(data)
-    elif argv[1] == "try":
-        return 1 if attempt(argv[2]) else 0
-    return 0
-
-
 if __name__ == "__main__":
-    sys.exit(main(sys.argv))
+    sys.exit(command(sys.argv, list(cases()), follow))

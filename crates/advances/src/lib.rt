@@ -3,19 +3,14 @@ use following::Follower;
 use following::Line;
 use following::Step;
 use following::refused;
+use programs::Progress;
 use record_steps::read_record;
 use records::Cut;
 use records::cut_record;
 ghost use mathlib.Core.Path.{_≡_};
-ghost use Rattle.advances.specs.Advancing.{progressOf, stepAdvance, doneAdvance, advanceOf, goesOn};
-
-// What became of a record: it was followed; it is not whole yet; no record is left; it was refused with a number, which ends the output.
-pub enum Progress {
-    Went,
-    More,
-    Done,
-    Refused(u8),
-}
+ghost use Rattle.programs.specs.Advancing.{doneAdvance, advanceOf};
+ghost use Rattle.following.specs.FollowProgram.{followProgram};
+ghost use Rattle.advances.specs.Advanced.{progressOf, steppedOf, advanced};
 
 // The record that begins at a place: what became of it, what is known after it, where the next begins, and its line.
 pub struct Advance {
@@ -24,6 +19,9 @@ pub struct Advance {
     pub next: usize,
     pub line: Line,
 }
+
+// The most bytes of a record before its CR LF.
+const LONGEST: usize = 128;
 
 // What became of a record that led to this line.
 pub fn progress_of(line: Line) -> Progress
@@ -36,21 +34,9 @@ pub fn progress_of(line: Line) -> Progress
     }
 }
 
-// Whether the next record is to be followed.
-pub fn goes_on(progress: Progress) -> bool
-    ensures { λ r. ⌜ r ≡ goesOn progress ⌝ }
-{
-    match progress {
-        Progress::Went => true,
-        Progress::More => false,
-        Progress::Done => false,
-        Progress::Refused(_) => false,
-    }
-}
-
 // A record that was followed, with the next one at place next.
 fn stepped(s: Step, next: usize) -> Advance
-    ensures { λ r. ⌜ r ≡ stepAdvance s next ⌝ }
+    ensures { λ r. ⌜ r ≡ steppedOf s next ⌝ }
 {
     let line = s.line;
     let follower = s.follower;
@@ -64,7 +50,7 @@ fn stepped(s: Step, next: usize) -> Advance
 
 // The input ended. 19: the first record is missing.
 fn done(f: Follower, start: usize) -> Advance
-    ensures { λ r. ⌜ r ≡ doneAdvance f start ⌝ }
+    ensures { λ r. ⌜ advanced r ≡ doneAdvance followProgram f start ⌝ }
 {
     if 1 < f.place {
         return Advance {
@@ -79,9 +65,9 @@ fn done(f: Follower, start: usize) -> Advance
 
 // The record that begins at place start.
 pub fn advance_at(f: Follower, bytes: &[u8], start: usize, ended: bool) -> Advance
-    ensures { λ r. ⌜ r ≡ advanceOf f (now (bytes .entry)) start ended ⌝ }
+    ensures { λ r. ⌜ advanced r ≡ advanceOf followProgram f (now (bytes .entry)) start ended ⌝ }
 {
-    let cut = cut_record(bytes, start, ended);
+    let cut = cut_record(bytes, start, LONGEST, ended);
     match cut {
         Cut::Record { end, next } => stepped(read_record(f, &bytes[start..end]), next),
         Cut::More => Advance {

@@ -42,7 +42,7 @@ pub fn has_room(room: usize, at: usize, size: usize) -> bool
 }
 
 // Writes the digits of value, of which there are size, from place at on, and gives the place after them.
-fn write_number(out: &mut [u8], at: usize, size: usize, value: u64) -> usize
+pub fn write_number(out: &mut [u8], at: usize, size: usize, value: u64) -> usize
     requires { ⌜ HasDigits value size × (at + size ≤ length (now out)) ⌝ }
     ensures buffer { λ r. ⌜ now (out .exit) ≡ sets (now (out .entry)) at (digitsOf value) ⌝ }
     ensures reached { λ r. ⌜ r ≡ at + size ⌝ }

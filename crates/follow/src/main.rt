@@ -1,77 +1,13 @@
 // Follows a recording: reads `m,n` and then rows of minislots, and prints the listener's counters after each slot.
 // It reads standard input, or the file that its first argument names, or, where that is the word `example`, a recording of its own.
-use buffers::count_first;
 use following::begin;
 use libc::STDIN_FILENO;
-use libc::STDOUT_FILENO;
 use lines::put_header;
+use pipes::flush;
+use pipes::serve;
 use rounds::follow_round;
-use standing::Run;
-use standing::Wants;
-use standing::after_read;
-use standing::after_write;
 use standing::begin_run;
-use standing::read_end;
 use stream::follow_buffered;
-
-// A run after what it needed was done, and whether it goes on.
-struct Served {
-    run: Run,
-    live: bool,
-}
-
-// Writes the bytes before place at, and answers whether all were taken.
-fn flush(out: &[u8], at: usize) -> bool {
-    let n = count_first(at, out);
-    let is_written = io::write_all(STDOUT_FILENO, &out[..n]);
-    if !is_written {
-        os::fail(b"standard output");
-    }
-    is_written
-}
-
-// Reads on, behind the bytes that are kept. Where that fails, what was followed is written before it is told.
-fn read_on(fd: i32, name: &[u8], s: Run, input: &mut [u8], out: &[u8]) -> Served {
-    let kept = count_first(s.filled, input);
-    let end = read_end(kept, input);
-    let got = libc::read(fd, &mut input[kept..end]);
-    if got < 0 {
-        if flush(out, s.at) {
-            os::fail(name);
-        }
-        return Served {
-            run: s,
-            live: false,
-        };
-    }
-    let more = io::count(got, input);
-    Served {
-        run: after_read(s, input, more),
-        live: true,
-    }
-}
-
-// Does what a run needs: reads on, or writes what the output buffer holds.
-fn serve(fd: i32, name: &[u8], s: Run, input: &mut [u8], out: &[u8]) -> Served {
-    let wants = s.wants;
-    match wants {
-        Wants::Read => read_on(fd, name, s, input, out),
-        Wants::Write => {
-            let live = flush(out, s.at);
-            Served {
-                run: after_write(s),
-                live,
-            }
-        }
-        Wants::End => {
-            flush(out, s.at);
-            Served {
-                run: s,
-                live: false,
-            }
-        }
-    }
-}
 
 // Follows all that the descriptor gives. A proved loop has to end, and nothing says that the input does: so the loop counts its rounds
 // down, from a number that no run uses up.
@@ -80,11 +16,13 @@ fn follow_input(fd: i32, name: &[u8]) {
     let mut out_space = io::large_buffer();
     let input: &mut [u8] = &mut input_space;
     let out: &mut [u8] = &mut out_space;
-    let mut s = begin_run(out);
+    let mut f = begin();
+    let mut s = begin_run(put_header(out, 0));
     let mut rounds = u64::MAX;
     while 0 < rounds {
-        let followed = follow_round(s, input, out);
-        let served = serve(fd, name, followed, input, out);
+        let followed = follow_round(f, s, input, out);
+        f = followed.follower;
+        let served = serve(fd, name, followed.run, input, out);
         s = served.run;
         if served.live {
             rounds -= 1;

@@ -6,6 +6,7 @@ use following::begin;
 use libc::STDIN_FILENO;
 use lines::put_header;
 use runs_cases::line_end;
+use runs_files::read_named;
 use runs_text::text;
 use stream::follow_buffered;
 
@@ -28,14 +29,8 @@ fn print_followed(bytes: &[u8]) {
 fn run(name: &[u8]) {
     text(name);
     text(b"\n");
-    let fd = os::open_read(name);
-    if fd < 0 {
-        os::fail(name);
-        return;
-    }
     let mut space = io::large_buffer();
-    let n = io::read_full(fd, &mut space);
-    libc::close(fd);
+    let n = read_named(name, &mut space);
     print_followed(&space[..n]);
     text(b"\n");
 }

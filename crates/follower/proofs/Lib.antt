@@ -1,2 +1,1 @@
 pub mod NumbersHold
-pub mod LineRoom

@@ -13,9 +13,10 @@ use Rattle.rules.specs.Refusing.{unless}
 use Rattle.rules.specs.Numbers.{Told, refusal, went}
 use Rattle.rules.specs.Answered.{told}
 use Rattle.following.specs.declared.Follower.{Follower}
-use Rattle.advances.specs.declared.Progress.{Progress}
-use Rattle.advances.specs.declared.Progress.the-variants.{Went, More, Done, Refused}
+use Rattle.programs.specs.declared.Progress.{Progress}
+use Rattle.programs.specs.declared.Progress.the-variants.{Went, More, Done, Refused}
 use Rattle.following.specs.RecordNumbers.{recordNumberOf}
+use Rattle.following.specs.FollowProgram.{followProgram}
 
 -- ---- the number of the record that begins at a place; that of a record by itself: following/specs/RecordNumbers
 
@@ -28,7 +29,7 @@ nextNumberBy f bytes start cut.Broken = 19
 
 -- THE RECORD THAT BEGINS AT PLACE `start` of `bytes`; `ended`: no byte comes after them
 unfoldable pub nextNumberOf : Follower → List ℕ → ℕ → Bool → ℕ
-nextNumberOf f bytes start ended = nextNumberBy f bytes start (cutOf bytes start ended)
+nextNumberOf f bytes start ended = nextNumberBy f bytes start (cutOf (followProgram .longest) bytes start ended)
 
 -- ---- what is answered
 

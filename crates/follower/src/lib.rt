@@ -1,17 +1,18 @@
 // What `follow` does with one record of its input: the listener's record goes on and a line is written, or the output ends with a refusal.
-use advances::Progress;
 use advances::advance_at;
 use advances::progress_of;
 use following::Follower;
 use following::Line;
 use lines::put_line;
+use programs::Progress;
 use record_steps::read_record;
 use refusals::put_refusal;
 ghost use mathlib.Core.Path.{_≡_};
-ghost use Rattle.decimals.specs.Putting.{putAt, placeAfter};
-ghost use Rattle.following.specs.Following.{bytesOf, followRecord};
-ghost use Rattle.advances.specs.Advancing.{advanceOf};
-ghost use Rattle.follower.specs.Writing.{followed, reached};
+ghost use Rattle.programs.specs.Advancing.{advanceOf};
+ghost use Rattle.programs.specs.Buffering.{putLines, placeAfterLines, reached};
+ghost use Rattle.following.specs.Following.{printed, followRecord};
+ghost use Rattle.following.specs.FollowProgram.{followProgram};
+ghost use Rattle.follower.specs.Writing.{followed, reachedBy};
 ghost use Rattle.follower.specs.Answered.{progressTold, recordToldOf, nextToldOf};
 
 // One record followed and its line written: what became of it, what is known after it, and the place after the line.
@@ -31,8 +32,8 @@ pub struct Next {
 
 // A line, at place at if it fits there; gives the place after it, or at.
 fn put(line: Line, out: &mut [u8], at: usize) -> usize
-    ensures buffer { λ r. ⌜ now (out .exit) ≡ putAt (now (out .entry)) at (bytesOf line) ⌝ }
-    ensures reached { λ r. ⌜ r ≡ placeAfter (now (out .entry)) at (bytesOf line) ⌝ }
+    ensures buffer { λ r. ⌜ now (out .exit) ≡ putLines (now (out .entry)) at (printed line) ⌝ }
+    ensures reached { λ r. ⌜ r ≡ placeAfterLines (now (out .entry)) at (printed line) ⌝ }
 {
     match line {
         Line::Nothing => at,
@@ -51,7 +52,7 @@ fn put(line: Line, out: &mut [u8], at: usize) -> usize
 // Follows one record, which is handed over without its CR LF, and writes its line at place at if it fits there.
 // In the first record: 19, then 5. In a row: 19, then 6, then listening's numbers. A refusal writes its line and ends the output.
 pub fn follow_record(f: Follower, bytes: &[u8], out: &mut [u8], at: usize) -> Followed
-    ensures buffer { λ r. ⌜ now (out .exit) ≡ putAt (now (out .entry)) at (bytesOf (followRecord f (now (bytes .entry)) .line)) ⌝ }
+    ensures buffer { λ r. ⌜ now (out .exit) ≡ putLines (now (out .entry)) at (printed (followRecord f (now (bytes .entry)) .line)) ⌝ }
     ensures answer { λ r. ⌜ r ≡ followed (followRecord f (now (bytes .entry))) (now (out .entry)) at ⌝ }
     ensures told { λ r. ⌜ progressTold (r .progress) ≡ recordToldOf f (now (bytes .entry)) ⌝ }
 {
@@ -77,8 +78,10 @@ pub fn follow_next(
     out: &mut [u8],
     at: usize,
 ) -> Next
-    ensures buffer { λ r. ⌜ now (out .exit) ≡ putAt (now (out .entry)) at (bytesOf (advanceOf f (now (bytes .entry)) start ended .line)) ⌝ }
-    ensures answer { λ r. ⌜ r ≡ reached (advanceOf f (now (bytes .entry)) start ended) (now (out .entry)) at ⌝ }
+    ensures buffer { λ r. ⌜
+        now (out .exit) ≡ putLines (now (out .entry)) at (advanceOf followProgram f (now (bytes .entry)) start ended .lines)
+        ⌝ }
+    ensures answer { λ r. ⌜ reachedBy r ≡ reached (advanceOf followProgram f (now (bytes .entry)) start ended) (now (out .entry)) at ⌝ }
     ensures told { λ r. ⌜ progressTold (r .progress) ≡ nextToldOf f (now (bytes .entry)) start ended ⌝ }
 {
     let a = advance_at(f, bytes, start, ended);

@@ -9,18 +9,14 @@ use lib.Dec.{eqb}
 use Rattle.rows.specs.Row.{readings, firstNumber, feedbacks}
 use Rattle.rows.proofs.Answers.{first-small}
 use Rattle.rules.specs.declared.Counters.{Counters}
-use Rattle.rules.specs.Refusing.{unless, orNext}
+use Rattle.rules.specs.Refusing.{orNext}
 use Rattle.rules.specs.Limits.{withinLimits}
 use Rattle.rules.specs.Queueing.{passes, stepOneOf, placesAfter}
 use Rattle.rules.specs.Listening.{hasRow, heardNumberOf, listenNumberOf}
-use Rattle.rules.proofs.Refusals.{test-passed, none-found}
+use Rattle.rules.proofs.Refusals.{unless-low, test-passed, none-found}
 use Rattle.following.specs.declared.Follower.{Follower}
 use Rattle.following.specs.RecordNumbers.{rowWords, rowCounts, isRow, hasFields, rowNumberOf}
 use Rattle.following.specs.Following.{rowPlaces}
-
-pub unless-low : (b : Bool) (n after : ℕ) → n ≤ 19 → after ≤ 19 → unless b n after ≤ 19
-unless-low true n after h l = l
-unless-low false n after h l = h
 
 next-low : (n after : ℕ) → n ≤ 19 → after ≤ 19 → orNext n after ≤ 19
 next-low n after h l = go (eqb n 0)

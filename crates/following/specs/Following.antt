@@ -1,12 +1,14 @@
 -- Following one record of a recording (paper 01, "`follow`"): what the record leads to, and the bytes that are printed for it.
 -- Bytes are numbers: letters are ASCII. A record is handed over without its CR LF. Its number, if it is refused: specs/RecordNumbers.
 use mathlib.Core.Bool.{cond}
-use mathlib.Core.List.{List, []}
-use Prim.Native.Nat.{ℕ, _+_, _-_}
+use mathlib.Core.List.{List, [], _∷_}
+use Prim.Native.Nat.{ℕ, _-_}
 use lib.Dec.{ltb}
 use lib.ListN.{getD}
 use Rattle.lines.specs.Lines.{lineOf}
 use Rattle.refusals.specs.Refusal.{refusalOf}
+use Rattle.turn_letters.specs.Letters.{letterOf}
+use Rattle.programs.specs.Places.{placeFollowing}
 use Rattle.rows.specs.Row.{readings, feedbacks}
 use Rattle.rules.specs.declared.Counters.{Counters}
 use Rattle.rules.specs.declared.Places.{Places}
@@ -16,7 +18,6 @@ use Rattle.rules.specs.Queueing.{stepOneOf}
 use Rattle.rules.specs.Falling.{fallen}
 use Rattle.rules.specs.Turns.{turnOf}
 use Rattle.rules.specs.declared.Turn.{Turn}
-use Rattle.rules.specs.declared.Turn.the-variants as turn
 use Rattle.following.specs.declared.Follower.{Follower}
 use Rattle.following.specs.declared.Step.{Step}
 use Rattle.following.specs.declared.Line.{Line}
@@ -27,22 +28,11 @@ use Rattle.following.specs.RecordNumbers.{firstMinislots, firstGroups, r
 abbrev pub atBegin : Follower
 atBegin = record { counters = noCounters; place = 1 }
 
--- turn (u, l, r or o)
-abbrev pub letterOf : Turn → ℕ
-letterOf turn.Urgent = 117
-letterOf turn.Long = 108
-letterOf turn.Resolve = 114
-letterOf turn.Open = 111
-
--- a line's bytes
-unfoldable pub bytesOf : Line → List ℕ
-bytesOf Nothing = []
-bytesOf (Row slot group letter urgent long resolution) = lineOf slot group letter urgent long resolution
-bytesOf (Refusal number place) = refusalOf number place
-
--- records are numbered from 1; the number is kept in 64 bits, and stays at the highest
-abbrev pub placeFollowing : ℕ → ℕ
-placeFollowing k = cond (ltb k 18446744073709551615) (k + 1) k
+-- the lines that are printed
+abbrev pub printed : Line → List (List ℕ)
+printed Nothing = []
+printed (Row slot group letter urgent long resolution) = lineOf slot group letter urgent long resolution ∷ []
+printed (Refusal number place) = refusalOf number place ∷ []
 
 -- a refusal prints `refused,number,record` and ends the output; what is known stays as it was
 abbrev pub refusedStep : Follower → ℕ → Step

@@ -1,3 +1,4 @@
 pub mod RecordNumbers
 pub mod Following
+pub mod FollowProgram
 pub mod Steps

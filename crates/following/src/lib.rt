@@ -1,15 +1,16 @@
 // What is known between two records of a recording, and what the answers of a listener lead to: the line of a row, or a refusal.
 use counters::resolution_of;
 use listener::start;
+use programs::past_first;
+use programs::place_following;
 use rules::Counters;
 use rules::ListenAnswer;
 use rules::Listened;
 use rules::StartAnswer;
-use rules::Turn;
+use turn_letters::letter;
 ghost use mathlib.Core.Path.{_≡_};
-ghost use Prim.Native.Nat.{_-_};
 ghost use Rattle.rules.specs.Starting.{startOf};
-ghost use Rattle.following.specs.Following.{letterOf, placeFollowing, atBegin, refusedStep};
+ghost use Rattle.following.specs.Following.{atBegin, refusedStep};
 ghost use Rattle.following.specs.Steps.{startedStep, listenedStep};
 
 // What is known between two records: the listener's record, and the number of the record to come (from 1; the first is `m,n`).
@@ -49,38 +50,6 @@ pub fn begin() -> Follower
         counters: counters::none(),
         place: 1,
     }
-}
-
-// The letter of a turn.
-fn letter(turn: Turn) -> u8
-    ensures { λ r. ⌜ r ≡ letterOf turn ⌝ }
-{
-    match turn {
-        Turn::Urgent => b'u',
-        Turn::Long => b'l',
-        Turn::Resolve => b'r',
-        Turn::Open => b'o',
-    }
-}
-
-// The number of the record after the one of this number.
-fn place_following(place: u64) -> u64
-    ensures { λ r. ⌜ r ≡ placeFollowing place ⌝ }
-{
-    if place < u64::MAX {
-        return place + 1;
-    }
-    place
-}
-
-// The slot of the record of this number: the first is no row.
-fn slot_of(place: u64) -> u64
-    ensures { λ r. ⌜ r ≡ place - 1 ⌝ }
-{
-    if place == 0 {
-        return 0;
-    }
-    place - 1
 }
 
 // A refusal, which ends the output; what is known stays as it was.
@@ -140,7 +109,7 @@ pub fn listened(f: Follower, heard: Listened) -> Step
                     place: place_following(f.place),
                 },
                 line: Line::Row {
-                    slot: slot_of(f.place),
+                    slot: past_first(f.place),
                     group,
                     letter: letter(turn),
                     urgent: after.urgent,

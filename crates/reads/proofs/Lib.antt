@@ -1,4 +1,4 @@
-pub mod Lines
+pub mod Rooms
 pub mod RoundLoop
 pub mod RoundMoves
 pub mod InReads

@@ -1,1 +1,1 @@
-// What a run of `follow` writes, however its reads divide the recording: definitions and a theorem, and no code.
+// What a run of a program writes, however its reads divide the input: definitions and a theorem of any program, and no code.

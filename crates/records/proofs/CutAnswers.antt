@@ -47,14 +47,14 @@ goes-number ended at (suc room) (b ∷ l) = go (eqb b 13) (eqb b 10) refl refl (
     go false true e f ih = rw (e, f, leb·suc-zero (suc room), feed-bad ended b l e)
     go false false e f ih = rw (e, f, leb·suc-suc (suc room) (length (beforeEnd l))) ih
 
-begins-number : (ended : Bool) (at : ℕ) (l : List ℕ) → cutAnswer (begins ended at l) .0 ≡ numbered ended 128 l
+begins-number : (longest : ℕ) (ended : Bool) (at : ℕ) (l : List ℕ) → cutAnswer (begins longest ended at l) .0 ≡ numbered ended longest l
 unfolding begins numbered beforeEnd badEnd
-begins-number true at [] = refl
-begins-number false at [] = refl
-begins-number ended at (b ∷ l) = goes-number ended at 128 (b ∷ l)
+begins-number longest true at [] = rw (leb·suc-zero longest)
+begins-number longest false at [] = rw (leb·suc-zero longest)
+begins-number longest ended at (b ∷ l) = goes-number ended at longest (b ∷ l)
 
 -- an answer that is `cutOf` has the paper's number
-pub cut-answered : (bytes : List ℕ) (start : ℕ) (ended : Bool) (r : Cut) → r ≡ cutOf bytes start ended
-    → (r ≡ cutOf bytes start ended) × (cutAnswer r .0 ≡ cutNumberOf bytes start ended)
+pub cut-answered : (longest : ℕ) (bytes : List ℕ) (start : ℕ) (ended : Bool) (r : Cut) → r ≡ cutOf longest bytes start ended
+    → (r ≡ cutOf longest bytes start ended) × (cutAnswer r .0 ≡ cutNumberOf longest bytes start ended)
 unfolding cutOf cutNumberOf numbered
-cut-answered bytes start ended r e = (e, ap (λ (x : Cut). cutAnswer x .0) e ∙ begins-number ended start (drop start bytes))
+cut-answered longest bytes start ended r e = (e, ap (λ (x : Cut). cutAnswer x .0) e ∙ begins-number longest ended start (drop start bytes))

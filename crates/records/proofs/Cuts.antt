@@ -25,13 +25,13 @@ module _ (ended : Bool) (at next : ℕ) (bytes : List ℕ) where
   return-last h = rw (drop-of-length-le bytes h)
 
 module _ (ended : Bool) (at : ℕ) (bytes : List ℕ) where
-  pub begins-none : length bytes ≤ at → cutOf bytes at ended ≡ cond ended Done More
+  pub begins-none : (longest : ℕ) → length bytes ≤ at → cutOf longest bytes at ended ≡ cond ended Done More
   unfolding cutOf begins
-  begins-none h = rw (drop-of-length-le bytes h)
+  begins-none longest h = rw (drop-of-length-le bytes h)
 
-  pub begins-some : at < length bytes → goesOn ended at 128 (drop at bytes) ≡ cutOf bytes at ended
+  pub begins-some : (longest : ℕ) → at < length bytes → goesOn ended at longest (drop at bytes) ≡ cutOf longest bytes at ended
   unfolding cutOf begins
-  begins-some h = rw (rest bytes at 0 h)
+  begins-some longest h = rw (rest bytes at 0 h)
 
   pub goes-last : (room : ℕ) → length bytes ≤ at → ended ≡ true → goesOn ended at room (drop at bytes) ≡ Record at at
   unfolding goesOn

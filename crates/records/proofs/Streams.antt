@@ -1,7 +1,7 @@
 -- What a program that reads the input piece by piece needs of `cutOf`:
 -- `settled`: an answer other than More stays as it is, whatever bytes come after; so it does not depend on how the input is divided into reads;
--- `enough-bytes`: More is answered only of fewer than 130 bytes, so a buffer of 130 bytes is enough;
--- `extent`, `inside`: a record lies inside the bytes, has 128 bytes at most, and the next begins after its start.
+-- `enough-bytes`: More is answered only of few bytes, one more than a record may have, so a buffer of two more is enough;
+-- `extent`, `inside`: a record lies inside the bytes, has no more of them than it may, and the next begins after its start.
 -- `begins-moved`: bytes in front of a record move its places by as many and change nothing else;
 -- `moved-on`: where the bytes before the record are dropped, every place is that much lower, so a buffer may be moved up.
 -- Assumes nothing.
@@ -20,7 +20,7 @@ use Rattle.records.specs.declared.Cut.{Cut}
 use Rattle.records.specs.declared.Cut.the-variants.{Record, More, Done, Broken}
 
 -- More bytes change no answer but More.
-module _ (ended : Bool) (more : List ℕ) (c : Cut) (some : More ≡ c → ⊥) where
+module _ (longest : ℕ) (ended : Bool) (more : List ℕ) (c : Cut) (some : More ≡ c → ⊥) where
   return-settled : (at : ℕ) (l : List ℕ) → afterReturn false at l ≡ c → afterReturn ended at (l ++ more) ≡ c
   unfolding afterReturn
   return-settled at [] e = absurd (some e)
@@ -43,16 +43,16 @@ module _ (ended : Bool) (more : List ℕ) (c : Cut) (some : More ≡ c → ⊥) 
       go false true ih e = e
       go false false ih e = ih e
 
-  begins-settled : (at : ℕ) (l : List ℕ) → begins false at l ≡ c → begins ended at (l ++ more) ≡ c
+  begins-settled : (at : ℕ) (l : List ℕ) → begins longest false at l ≡ c → begins longest ended at (l ++ more) ≡ c
   unfolding begins
   begins-settled at [] e = absurd (some e)
-  begins-settled at (b ∷ l) e = goes-settled at 128 (b ∷ l) e
+  begins-settled at (b ∷ l) e = goes-settled at longest (b ∷ l) e
 
-  pub settled : (bytes : List ℕ) (start : ℕ) → cutOf bytes start false ≡ c → cutOf (bytes ++ more) start ended ≡ c
+  pub settled : (bytes : List ℕ) (start : ℕ) → cutOf longest bytes start false ≡ c → cutOf longest (bytes ++ more) start ended ≡ c
   unfolding cutOf begins
   settled bytes start e = go (ltb start (length bytes)) refl
     where
-      go : (t : Bool) → ltb start (length bytes) ≡ t → begins ended start (drop start (bytes ++ more)) ≡ c
+      go : (t : Bool) → ltb start (length bytes) ≡ t → begins longest ended start (drop start (bytes ++ more)) ≡ c
       go true h = let k : start ≤ length bytes = omega (arith, ltb-true start (length bytes) h) in
           rw (drop-append-le start bytes more k) (begins-settled start (drop start bytes) e)
       go false h = absurd (some (rw (drop-of-length-le bytes (ltb-false start (length bytes) h)) at e))
@@ -83,14 +83,14 @@ goes-few at (suc room) (b ∷ l) e = go (eqb b 13) (eqb b 10) (goes-few (at + 1)
     go false true ih e = let z : _≡_ {A = ℕ} 0 1 = cc in absurd (omega arith)
     go false false ih e = omega (arith, ih e)
 
-begins-few : (at : ℕ) (l : List ℕ) → begins false at l ≡ More → length l ≤ 129
+begins-few : (longest at : ℕ) (l : List ℕ) → begins longest false at l ≡ More → length l ≤ suc longest
 unfolding begins
-begins-few at [] e = omega arith
-begins-few at (b ∷ l) e = goes-few at 128 (b ∷ l) e
+begins-few longest at [] e = omega arith
+begins-few longest at (b ∷ l) e = goes-few at longest (b ∷ l) e
 
-pub enough-bytes : (bytes : List ℕ) (start : ℕ) → cutOf bytes start false ≡ More → length bytes - start ≤ 129
+pub enough-bytes : (longest : ℕ) (bytes : List ℕ) (start : ℕ) → cutOf longest bytes start false ≡ More → length bytes - start ≤ suc longest
 unfolding cutOf
-enough-bytes bytes start e = rw length-drop at (begins-few start (drop start bytes) e)
+enough-bytes longest bytes start e = rw length-drop at (begins-few longest start (drop start bytes) e)
 
 -- Where a record lies that begins at place `at`, may have `room` bytes, and of which `count` bytes are there.
 pub record Extent (at room count end next : ℕ) : Type 0 where
@@ -145,23 +145,25 @@ goes-extent ended at (suc room) end next (b ∷ l) e = go (eqb b 13) (eqb b 10) 
         let i : next ≤ at + 1 + length l = x .inside in
         record { from = omega arith; short = omega arith; order = omega arith; inside = omega arith; onward = λ h. omega arith }
 
-begins-extent : (ended : Bool) (at end next : ℕ) (l : List ℕ) → begins ended at l ≡ Record end next → Extent at 128 (length l) end next
+begins-extent : (longest : ℕ) (ended : Bool) (at end next : ℕ) (l : List ℕ) → begins longest ended at l ≡ Record end next
+    → Extent at longest (length l) end next
 unfolding begins
-begins-extent ended at end next [] e = go ended e
+begins-extent longest ended at end next [] e = go ended e
   where
-    go : (t : Bool) → cond t Done More ≡ Record end next → Extent at 128 0 end next
+    go : (t : Bool) → cond t Done More ≡ Record end next → Extent at longest 0 end next
     go true e = let z : _≡_ {A = ℕ} 0 1 = cc in absurd (omega arith)
     go false e = let z : _≡_ {A = ℕ} 0 1 = cc in absurd (omega arith)
-begins-extent ended at end next (b ∷ l) e = goes-extent ended at 128 end next (b ∷ l) e
+begins-extent longest ended at end next (b ∷ l) e = goes-extent ended at longest end next (b ∷ l) e
 
-pub extent : (bytes : List ℕ) (start : ℕ) (ended : Bool) (end next : ℕ) → cutOf bytes start ended ≡ Record end next → Extent start 128 (length bytes - start) end next
+pub extent : (longest : ℕ) (bytes : List ℕ) (start : ℕ) (ended : Bool) (end next : ℕ) → cutOf longest bytes start ended ≡ Record end next
+    → Extent start longest (length bytes - start) end next
 unfolding cutOf
-extent bytes start ended end next e = rw length-drop at (begins-extent ended start end next (drop start bytes) e)
+extent longest bytes start ended end next e = rw length-drop at (begins-extent longest ended start end next (drop start bytes) e)
 
 -- So it lies inside the bytes that it was cut from.
-pub inside : (bytes : List ℕ) (start : ℕ) (ended : Bool) (end next : ℕ) → cutOf bytes start ended ≡ Record end next
+pub inside : (longest : ℕ) (bytes : List ℕ) (start : ℕ) (ended : Bool) (end next : ℕ) → cutOf longest bytes start ended ≡ Record end next
     → (start ≤ end) × (end ≤ next) × (next ≤ length bytes)
-inside bytes start ended end next e = go (ltb start (length bytes)) refl
+inside longest bytes start ended end next e = go (ltb start (length bytes)) refl
   where
     none : (t : Bool) → cond t Done More ≡ Record end next → ⊥
     none true z = let z₁ : _≡_ {A = ℕ} 0 1 = cc in omega arith
@@ -169,11 +171,11 @@ inside bytes start ended end next e = go (ltb start (length bytes)) refl
 
     go : (t : Bool) → ltb start (length bytes) ≡ t → (start ≤ end) × (end ≤ next) × (next ≤ length bytes)
     go true h =
-        let x = extent bytes start ended end next e in
+        let x = extent longest bytes start ended end next e in
         let k : start < length bytes = ltb-true start (length bytes) h in
         let i : next ≤ start + (length bytes - start) = x .inside in
         (x .from, x .order, omega arith)
-    go false h = absurd (none ended (sym (begins-none ended start bytes (ltb-false start (length bytes) h)) ∙ e))
+    go false h = absurd (none ended (sym (begins-none ended start bytes longest (ltb-false start (length bytes) h)) ∙ e))
 
 -- An answer with every place that much higher.
 unfoldable pub moved : ℕ → Cut → Cut
@@ -205,13 +207,13 @@ goes-moved ended k at (suc room) (b ∷ l) =
       goes-moved ended k (at + 1) room l,
     )
 
-pub begins-moved : (ended : Bool) (k at : ℕ) (l : List ℕ) → begins ended (k + at) l ≡ moved k (begins ended at l)
+pub begins-moved : (longest : ℕ) (ended : Bool) (k at : ℕ) (l : List ℕ) → begins longest ended (k + at) l ≡ moved k (begins longest ended at l)
 unfolding begins moved
-begins-moved ended k at [] = sym (moved-cond k ended Done More)
-begins-moved ended k at (b ∷ l) = goes-moved ended k at 128 (b ∷ l)
+begins-moved longest ended k at [] = sym (moved-cond k ended Done More)
+begins-moved longest ended k at (b ∷ l) = goes-moved ended k at longest (b ∷ l)
 
-pub moved-on : (bytes : List ℕ) (start : ℕ) (ended : Bool) → cutOf bytes start ended ≡ moved start (cutOf (drop start bytes) 0 ended)
+pub moved-on : (longest : ℕ) (bytes : List ℕ) (start : ℕ) (ended : Bool) → cutOf longest bytes start ended ≡ moved start (cutOf longest (drop start bytes) 0 ended)
 unfolding cutOf
-moved-on bytes start ended =
+moved-on longest bytes start ended =
     let z : start ≡ start + 0 = omega arith in
-    ap (λ (n : ℕ). begins ended n (drop start bytes)) z ∙ begins-moved ended start 0 (drop start bytes)
+    ap (λ (n : ℕ). begins longest ended n (drop start bytes)) z ∙ begins-moved longest ended start 0 (drop start bytes)

@@ -1,5 +1,6 @@
 -- Where a record of the input ends (paper: "comma-separated records (RFC 4180, no quotes, CR LF, last one optional)",
--- "records have at most 128 bytes before CR LF"). Bytes are numbers: CR is 13, LF is 10.
+-- "records have at most 128 bytes before CR LF"). How many bytes a record may have is each program's: `longest`. Bytes are numbers: CR is
+-- 13, LF is 10.
 use mathlib.Core.Bool.{Bool, true, false, cond, not, _||_}
 use mathlib.Core.List.{List, [], _∷_}
 use Prim.Native.Nat.{ℕ, zero, suc, _+_}
@@ -23,14 +24,14 @@ goesOn ended at (suc room) (b ∷ rest) =
     (cond (eqb b 10) Broken
     (goesOn ended (at + 1) room rest))
 
--- The record that begins at place `at`, where `rest` stands: none where the input has ended; else one of 128 bytes at most.
-unfoldable pub begins : Bool → ℕ → List ℕ → Cut
-begins ended at [] = cond ended Done More
-begins ended at (b ∷ rest) = goesOn ended at 128 (b ∷ rest)
+-- The record that begins at place `at`, where `rest` stands: none where the input has ended; else one of `longest` bytes at most.
+unfoldable pub begins : ℕ → Bool → ℕ → List ℕ → Cut
+begins longest ended at [] = cond ended Done More
+begins longest ended at (b ∷ rest) = goesOn ended at longest (b ∷ rest)
 
 -- The record that begins at place `start` of `bytes`; `ended`: no byte comes after them.
-unfoldable pub cutOf : List ℕ → ℕ → Bool → Cut
-cutOf bytes start ended = begins ended start (drop start bytes)
+unfoldable pub cutOf : ℕ → List ℕ → ℕ → Bool → Cut
+cutOf longest bytes start ended = begins longest ended start (drop start bytes)
 
 -- The paper's number of each answer (0 where there is none), and the places that it carries: where the record ends, and where the next
 -- begins.
@@ -51,9 +52,9 @@ badEnd ended [] = false
 badEnd ended (b ∷ []) = cond (eqb b 13) ended true
 badEnd ended (b ∷ c ∷ rest) = cond (eqb b 13) (not (eqb c 10)) true
 
--- The number of the record that begins at place `start`: 19 where it has more than 128 bytes or ends badly.
-unfoldable pub cutNumberOf : List ℕ → ℕ → Bool → ℕ
-cutNumberOf bytes start ended =
+-- The number of the record that begins at place `start`: 19 where it has more than `longest` bytes or ends badly.
+unfoldable pub cutNumberOf : ℕ → List ℕ → ℕ → Bool → ℕ
+cutNumberOf longest bytes start ended =
     let rest = drop start bytes in
     let size = length (beforeEnd rest) in
-    cond (ltb 128 size || badEnd ended (drop size rest)) 19 0
+    cond (ltb longest size || badEnd ended (drop size rest)) 19 0

@@ -12,15 +12,13 @@ pub enum Cut {
     More,
     // The input has ended, and no record is left.
     Done,
-    // Number 19: a CR or LF by itself, or more than 128 bytes with no CR LF.
+    // Number 19: a CR or LF by itself, or more bytes than a record may have with no CR LF.
     Broken,
 }
 
 const CR: u8 = 13;
 
 const LF: u8 = 10;
-// The most bytes of a record before its CR LF.
-const LONGEST: usize = 128;
 
 // The record that ends before the CR at place at, if LF follows the CR.
 fn after_return(bytes: &[u8], at: usize, ended: bool) -> Cut
@@ -44,10 +42,11 @@ fn after_return(bytes: &[u8], at: usize, ended: bool) -> Cut
     Cut::More
 }
 
-// Where the record ends that begins at place start; ended: no byte comes after these. It looks at 130 bytes at most.
-pub fn cut_record(bytes: &[u8], start: usize, ended: bool) -> Cut
-    ensures cut { λ r. ⌜ r ≡ cutOf (now (bytes .entry)) start ended ⌝ }
-    ensures number { λ r. ⌜ cutAnswer r .0 ≡ cutNumberOf (now (bytes .entry)) start ended ⌝ }
+// Where the record ends that begins at place start; longest: the most bytes of a record before its CR LF; ended: no byte comes after these.
+// It looks at two bytes more than a record may have, at most.
+pub fn cut_record(bytes: &[u8], start: usize, longest: usize, ended: bool) -> Cut
+    ensures cut { λ r. ⌜ r ≡ cutOf longest (now (bytes .entry)) start ended ⌝ }
+    ensures number { λ r. ⌜ cutAnswer r .0 ≡ cutNumberOf longest (now (bytes .entry)) start ended ⌝ }
 {
     if bytes.len() <= start {
         if ended {
@@ -56,7 +55,7 @@ pub fn cut_record(bytes: &[u8], start: usize, ended: bool) -> Cut
         return Cut::More;
     }
     let mut at = start;
-    let mut room = LONGEST;
+    let mut room = longest;
     while at < bytes.len() {
         let b = bytes[at];
         if b == CR {

@@ -1,7 +1,7 @@
--- Laws of the order of checking: what a call leaves, test by test; and that a call which went through has passed every test. Assumes nothing.
+-- Laws of the order of checking: what a call leaves, test by test; the highest number; and that a call which went through has passed every test. Assumes nothing.
 use mathlib.Core.Path.{_≡_, refl, sym, ap, _∙_}
 use mathlib.Core.Bool.{Bool, true, false, cond, false≢true}
-use Prim.Native.Nat.{ℕ}
+use Prim.Native.Nat.{ℕ, _≤_}
 use lib.Dec.{eqb}
 use borrow.Author.Tests.{eqb-true}
 use Rattle.rules.specs.Refusing.{unless, orNext, byNumber}
@@ -28,6 +28,11 @@ by-ap f n refusal through = go (eqb n 0)
     go : (b : Bool) → f (cond b through (refusal n)) ≡ cond b (f through) (f (refusal n))
     go true = refl
     go false = refl
+
+-- no number of a list is above 19 if none of its tests' is
+pub unless-low : (b : Bool) (n after : ℕ) → n ≤ 19 → after ≤ 19 → unless b n after ≤ 19
+unless-low true n after h l = l
+unless-low false n after h l = h
 
 -- ---- a call that went through
 

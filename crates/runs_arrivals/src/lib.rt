@@ -12,10 +12,6 @@ pub const SIZE: u64 = 3;
 
 pub const PICK: u64 = 4;
 
-pub const BAD: u64 = 5;
-
-pub const BAD_KIND: u64 = 6;
-
 // A multiple of a number, below 2^32, its halves changed over.
 fn scrambled(x: u64) -> u64 {
     let product = x % 4294967296 * 2654435761 % 4294967296;
@@ -50,20 +46,6 @@ pub fn size(s: u64, k: u64) -> usize
         return 12240;
     }
     (1 + bytes) as usize
-}
-
-// A station has an arrival in one of this many slots: quiet, steady and crowded stretches of 256 slots follow each other.
-pub fn rarity(stations: u64, s: u64) -> u64
-    ensures { λ r. ⌜ r ≤ 4080 ⌝ }
-{
-    let stretch = s / 256 % 3;
-    if stretch == 0 {
-        return stations % 256 * 16;
-    }
-    if stretch == 1 {
-        return stations % 256 * 2;
-    }
-    8
 }
 
 // A pick of one of m minislots.

@@ -1,9 +1,9 @@
-// Tables and wires by value for the programs that check by running: none in use, one with something altered, and one after a call.
-use conditions::no_station;
+// Tables and wires by value for the programs that check by running: one with something altered, and one after a call.
 use local_channel::LocalCalled;
 use local_channel::LocalChannel;
 use local_channel::LocalStarted;
 use minislot::Minislot;
+use rehearsing::blank;
 use rules::Station;
 use rules::WireRow;
 ghost use Prim.Native.Nat.{_≤_};
@@ -12,18 +12,6 @@ pub fn least(a: usize, b: usize) -> usize
     ensures { λ r. ⌜ r ≤ b ⌝ }
 {
     if a < b { a } else { b }
-}
-
-// A table of so many records that stand for no station, and a silent wire.
-pub fn blank(count: usize) -> LocalChannel {
-    let row = WireRow {
-        minislots: [Minislot { word: 0, count: 0 }; 8],
-    };
-    LocalChannel {
-        stations: [no_station(); 65],
-        count,
-        wire: [row; 8],
-    }
 }
 
 // ---- with something altered

@@ -48,7 +48,8 @@ fn new_table(m: u8, n: u8, indexes: &[u16]) -> Loaded
     hold(stations, count)
 }
 
-fn blank_wire() -> [WireRow; 8]
+// A wire on which nothing was sent.
+pub fn blank_wire() -> [WireRow; 8]
     ensures { λ r. ⌜ r ≡ blankWire ⌝ }
 {
     [WireRow {

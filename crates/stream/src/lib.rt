@@ -1,26 +1,17 @@
 // Following the records that stand in a stretch of bytes, one after another.
-use advances::Progress;
-use advances::goes_on;
+use decimals::has_room;
 use follower::Next;
 use follower::follow_next;
 use following::Follower;
+use programs::Progress;
+use programs::goes_on;
 ghost use mathlib.Core.Path.{_≡_};
-ghost use Rattle.stream.specs.Buffering.{roomFor, bufferedOf};
+ghost use Rattle.programs.specs.Buffering.{bufferedOf};
+ghost use Rattle.following.specs.FollowProgram.{followProgram};
+ghost use Rattle.follower.specs.Writing.{reachedBy};
 
 // No line is longer than this.
 const LINE: usize = 128;
-
-// Whether a line's bytes are left from place at on.
-fn room_for(room: usize, at: usize) -> bool
-    ensures { λ r. ⌜ r ≡ roomFor room at ⌝ }
-{
-    if LINE <= room {
-        if at <= room - LINE {
-            return true;
-        }
-    }
-    false
-}
 
 // Follows the records that begin at place start of the bytes, one after another, and writes their lines from place at of the buffer on,
 // until no whole record is left, one is refused, or the buffer has no room for another line (the answer is then Went); ended: no byte comes
@@ -33,8 +24,8 @@ pub fn follow_buffered(
     out: &mut [u8],
     at: usize,
 ) -> Next
-    ensures buffer { λ r. ⌜ now (out .exit) ≡ bufferedOf f (now (bytes .entry)) start ended (now (out .entry)) at .buffer ⌝ }
-    ensures answer { λ r. ⌜ r ≡ bufferedOf f (now (bytes .entry)) start ended (now (out .entry)) at .answer ⌝ }
+    ensures buffer { λ r. ⌜ now (out .exit) ≡ bufferedOf followProgram f (now (bytes .entry)) start ended (now (out .entry)) at .buffer ⌝ }
+    ensures answer { λ r. ⌜ reachedBy r ≡ bufferedOf followProgram f (now (bytes .entry)) start ended (now (out .entry)) at .answer ⌝ }
 {
     let mut n = Next {
         progress: Progress::Went,
@@ -44,7 +35,7 @@ pub fn follow_buffered(
     };
     let mut rounds = bytes.len() + 1;
     while 0 < rounds {
-        if room_for(out.len(), n.at) {
+        if has_room(out.len(), n.at, LINE) {
             let follower = n.follower;
             n = follow_next(follower, bytes, n.next, ended, out, n.at);
             let progress = n.progress;

@@ -50,7 +50,7 @@ fn read_wire_row(minislots: [Minislot; 8], m: u8) -> RowReading
 }
 
 // A group's row of the wire, a blank one beyond its eight.
-fn row_at(wire: [WireRow; 8], group: u8) -> WireRow
+pub fn row_at(wire: [WireRow; 8], group: u8) -> WireRow
     ensures { λ r. ⌜ r ≡ getD wire (group - 1) blankRow ⌝ }
 {
     let g = place_of(group);

@@ -1,8 +1,10 @@
 -- `advance_at` goes by where the record ends.
 -- Assumes nothing.
-use mathlib.Core.Path.{_≡_, refl, ap, sym, _∙_}
+use mathlib.Core.Path.{ap, sym, _∙_}
 use native.Mathlib.Omega.{arith}
-use Rattle.advances.specs.Advancing.{advanceOf}
+use Rattle.programs.specs.Advancing.{advanceOf}
+use Rattle.advances.specs.Advanced.{advanced}
+use Rattle.advances.proofs.Records.{record-advanced}
 use Rattle.records.proofs.Streams.{inside}
 use borrow.Author.Needs.{needs}
 use Rattle.advances.proofs.advance_at.Statement.{statement}
@@ -17,19 +19,19 @@ enum-known-cut c = search needs
 sub-read-record : tie.Need-sub-read-record
 sub-read-record c =
     let a = c .before .before .before .before .before .args in
-    let i = inside (a .bytes .now) (a .start) (a .ended) _ _ (sym (c .before .before .before .cut-record .ensures .0) ∙ c .before .cut .given .1) in
+    let i = inside 128 (a .bytes .now) (a .start) (a .ended) _ _ (sym (c .before .before .before .cut-record .ensures .0) ∙ c .before .cut .given .1) in
     omega (arith, i .0, i .1, i .2)
 
 part-read-record-start : tie.Need-part-read-record-start
 part-read-record-start c =
     let a = c .before .before .before .before .before .args in
-    let i = inside (a .bytes .now) (a .start) (a .ended) _ _ (sym (c .before .before .before .cut-record .ensures .0) ∙ c .before .cut .given .1) in
+    let i = inside 128 (a .bytes .now) (a .start) (a .ended) _ _ (sym (c .before .before .before .cut-record .ensures .0) ∙ c .before .cut .given .1) in
     omega (arith, i .0, i .1, i .2)
 
 part-read-record-end : tie.Need-part-read-record-end
 part-read-record-end c =
     let a = c .before .before .before .before .before .args in
-    let i = inside (a .bytes .now) (a .start) (a .ended) _ _ (sym (c .before .before .before .cut-record .ensures .0) ∙ c .before .cut .given .1) in
+    let i = inside 128 (a .bytes .now) (a .start) (a .ended) _ _ (sym (c .before .before .before .cut-record .ensures .0) ∙ c .before .cut .given .1) in
     omega (arith, i .0, i .1, i .2)
 
 read-record-requires : tie.Need-read-record-requires
@@ -58,7 +60,9 @@ stepped-requires-2 c κs = search needs
 
 returns : tie.Need-returns
 unfolding advanceOf
-returns c = rw (← c .before .before .before .before .before .before .cut-record .ensures .0, c .before .before .before .before .cut .given .1) (rw (c .before .read-record .ensures) at (c .stepped .ensures))
+returns c =
+    rw (← c .before .before .before .before .before .before .cut-record .ensures .0, c .before .before .before .before .cut .given .1)
+    (ap advanced (rw (c .before .read-record .ensures) at (c .stepped .ensures)) ∙ record-advanced _ _ _)
 
 returns-2 : tie.Need-returns-2
 unfolding advanceOf
@@ -70,7 +74,9 @@ returns-3 c = rw (← c .before .before .before .cut-record .ensures .0, c .befo
 
 returns-4 : tie.Need-returns-4
 unfolding advanceOf
-returns-4 c = rw (← c .before .before .before .before .cut-record .ensures .0, c .before .before .enum-told3 .given .1) (rw (c .before .refused .ensures) at (c .stepped2 .ensures))
+returns-4 c =
+    rw (← c .before .before .before .before .cut-record .ensures .0, c .before .before .enum-told3 .given .1)
+    (ap advanced (rw (c .before .refused .ensures) at (c .stepped2 .ensures)))
 
 pub advance-at-spec : {M : Type 1} → statement M
 advance-at-spec =

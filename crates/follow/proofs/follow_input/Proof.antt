@@ -6,10 +6,10 @@ use Rattle.follow.proofs.follow_input.Statement.{statement}
 use Rattle.follow.proofs.follow_input.Tie as tie
 
 abbrev Inv-loop : tie.InvT-loop
-Inv-loop fd name input₀ out₀ s₀ rounds₀ input out s rounds = Unit {0}
+Inv-loop fd name input₀ out₀ f₀ s₀ rounds₀ input out f s rounds = Unit {0}
 
 abbrev μ-loop : tie.MeasureT-loop
-μ-loop fd name input₀ out₀ s₀ rounds₀ input out s rounds = rounds
+μ-loop fd name input₀ out₀ f₀ s₀ rounds₀ input out f s rounds = rounds
 
 large-buffer-requires : tie.Need-large-buffer-requires Inv-loop μ-loop
 large-buffer-requires c κs = search needs
@@ -22,6 +22,12 @@ slice-aggregate-input c = search needs
 
 slice-aggregate-out : tie.Need-slice-aggregate-out Inv-loop μ-loop
 slice-aggregate-out c = search needs
+
+begin-requires : tie.Need-begin-requires Inv-loop μ-loop
+begin-requires c κs = search needs
+
+put-header-requires : tie.Need-put-header-requires Inv-loop μ-loop
+put-header-requires c κs = search needs
 
 begin-run-requires : tie.Need-begin-run-requires Inv-loop μ-loop
 begin-run-requires c κs = search needs
@@ -60,6 +66,8 @@ follow-input-spec =
     large-buffer-requires-2
     slice-aggregate-input
     slice-aggregate-out
+    begin-requires
+    put-header-requires
     begin-run-requires
     loop-holds
     follow-round-requires

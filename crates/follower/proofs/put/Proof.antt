@@ -1,8 +1,6 @@
 -- `put` writes by the kind of line.
 -- Assumes nothing.
-use mathlib.Core.Path.{_≡_, refl, ap, sym, _∙_}
-use Rattle.following.specs.Following.{bytesOf}
-use Rattle.decimals.proofs.Stores.{put-nothing}
+use mathlib.Core.Path.{refl}
 use borrow.Author.Needs.{needs}
 use Rattle.follower.proofs.put.Statement.{statement}
 use Rattle.follower.proofs.put.Tie as tie
@@ -23,21 +21,18 @@ put-line-requires : tie.Need-put-line-requires
 put-line-requires c κs = search needs
 
 returns : tie.Need-returns
-unfolding bytesOf
-returns c = rw (c .enum-told .given .1) (put-nothing _ _)
+returns c = rw (c .enum-told .given .1) (refl, refl)
 
 same-length : tie.Need-same-length
 same-length c = search needs
 
 returns-2 : tie.Need-returns-2
-unfolding bytesOf
 returns-2 c = rw (c .before .before .before .before .before .line .given .1) (c .before .before .put-refusal .ensures)
 
 same-length-2 : tie.Need-same-length-2
 same-length-2 c = search needs
 
 returns-3 : tie.Need-returns-3
-unfolding bytesOf
 returns-3 c = rw (c .before .before .before .before .before .line2 .given .1) (c .before .before .put-line .ensures)
 
 pub put-spec : {M : Type 1} → statement M

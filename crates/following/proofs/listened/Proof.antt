@@ -16,8 +16,8 @@ enum-known-answer-2 c = search needs
 place-following-requires : tie.Need-place-following-requires
 place-following-requires c κs = search needs
 
-slot-of-requires : tie.Need-slot-of-requires
-slot-of-requires c κs = search needs
+past-first-requires : tie.Need-past-first-requires
+past-first-requires c κs = search needs
 
 letter-requires : tie.Need-letter-requires
 letter-requires c κs = search needs
@@ -29,7 +29,7 @@ returns : tie.Need-returns
 returns c = rw (c .before .before .answer .given .1) (c .refused .ensures)
 
 returns-2 : tie.Need-returns-2
-returns-2 c = rw (c .before .before .before .before .before .before .before .answer2 .given .1, c .before .before .before .place-following .ensures, c .before .before .slot-of .ensures, c .before .letter .ensures, c .resolution-of .ensures)
+returns-2 c = rw (c .before .before .before .before .before .before .before .answer2 .given .1, c .before .before .before .place-following .ensures, c .before .before .past-first .ensures, c .before .letter .ensures, c .resolution-of .ensures)
 
 pub listened-spec : {M : Type 1} → statement M
 listened-spec =
@@ -39,7 +39,7 @@ listened-spec =
     refused-requires
     enum-known-answer-2
     place-following-requires
-    slot-of-requires
+    past-first-requires
     letter-requires
     resolution-of-requires
     returns

@@ -1,19 +1,20 @@
 -- `follow_buffered` meets its contract. The loop's invariant: what is left to do from here is what was to be done at first. The measure is the rounds left.
 -- Assumes nothing.
-use mathlib.Core.Path.{_≡_, refl, ap, sym, _∙_}
+use mathlib.Core.Path.{_≡_, refl, sym, _∙_}
 use Prim.Native.Nat.{_+_, _≤_}
-use native.Mathlib.Numerals.{add-one}
 use native.Mathlib.Omega.{arith}
 use lib.ListN.{length}
-use Rattle.stream.specs.Buffering.{bufferedFrom}
-use Rattle.stream.proofs.Steps.{begun, parts-are, no-round, no-room, went-on, stopped}
+use Rattle.programs.specs.Buffering.{bufferedFrom}
+use Rattle.following.specs.FollowProgram.{followProgram}
+use Rattle.follower.specs.Writing.{reachedBy}
+use Rattle.programs.proofs.Steps.{begun, parts-are, no-round, no-room, went-on, stopped}
 use borrow.Author.Needs.{needs}
 use Rattle.stream.proofs.follow_buffered.Statement.{statement}
 use Rattle.stream.proofs.follow_buffered.Tie as tie
 
 abbrev Inv-loop : tie.InvT-loop
 Inv-loop bytes start ended out₀ at n₀ rounds₀ out n rounds =
-    (rounds ≤ length bytes + 1) × (length out ≡ length out₀) × (bufferedFrom rounds bytes ended out n ≡ bufferedFrom rounds₀ bytes ended out₀ n₀)
+    (rounds ≤ length bytes + 1) × (length out ≡ length out₀) × (bufferedFrom followProgram rounds bytes ended out (reachedBy n) ≡ bufferedFrom followProgram rounds₀ bytes ended out₀ (reachedBy n₀))
 
 abbrev μ-loop : tie.MeasureT-loop
 μ-loop bytes start ended out₀ at n₀ rounds₀ out n rounds = rounds
@@ -24,8 +25,8 @@ add-rounds c = omega arith
 loop-holds : tie.Need-loop-holds Inv-loop μ-loop
 loop-holds c = (omega arith, refl, refl)
 
-room-for-requires : tie.Need-room-for-requires Inv-loop μ-loop
-room-for-requires c κs = search needs
+has-room-requires : tie.Need-has-room-requires Inv-loop μ-loop
+has-room-requires c κs = search needs
 
 follow-next-requires : tie.Need-follow-next-requires Inv-loop μ-loop
 follow-next-requires c κs = search needs
@@ -44,11 +45,11 @@ loop-again c =
     let a = c .before .before .before .before .before .before .before .before .before .before .before .before .before .args in
     let l = c .before .before .before .before .before .before .before .before .before .before .loop in
     let v = c .before .before .before .before .follow-next in
-    let room = sym (c .before .before .before .before .before .before .before .before .room-for .ensures) ∙ c .before .before .before .before .before .before .before .if1 .taken in
+    let room = sym (c .before .before .before .before .before .before .before .before .has-room .ensures) ∙ c .before .before .before .before .before .before .before .if1 .taken in
     let goes = sym (c .before .goes-on .ensures) ∙ c .if2 .taken in (
       omega arith,
       omega (arith, v .kept .1 .1 .1 .1 .0, l .inv .1),
-      sym (went-on (a .bytes .now) (a .ended) (l .out) (l .n) _ _ (v .ensures .0) (v .ensures .1 .0) room (l .rounds) (c .before .before .before .before .before .before .before .before .before .loop-test .taken) goes) ∙ l .inv .2,
+      sym (went-on followProgram (a .bytes .now) (a .ended) (l .out) (reachedBy (l .n)) _ _ (v .ensures .0) (v .ensures .1 .0) room (l .rounds) (c .before .before .before .before .before .before .before .before .before .loop-test .taken) goes) ∙ l .inv .2,
     )
 
 same-length : tie.Need-same-length Inv-loop μ-loop
@@ -59,12 +60,12 @@ returns c =
     let a = c .before .before .before .before .before .before .before .before .before .before .before .before .before .args in
     let l = c .before .before .before .before .before .before .before .before .before .before .loop in
     let v = c .before .before .before .before .follow-next in
-    let room = sym (c .before .before .before .before .before .before .before .before .room-for .ensures) ∙ c .before .before .before .before .before .before .before .if1 .taken in
+    let room = sym (c .before .before .before .before .before .before .before .before .has-room .ensures) ∙ c .before .before .before .before .before .before .before .if1 .taken in
     let goes = sym (c .before .goes-on .ensures) ∙ c .if2 .left in
-    parts-are
-    (sym (stopped (a .bytes .now) (a .ended) (l .out) (l .n) _ _ (v .ensures .0) (v .ensures .1 .0) room (l .rounds) (c .before .before .before .before .before .before .before .before .before .loop-test .taken) goes)
+    parts-are followProgram
+    (sym (stopped followProgram (a .bytes .now) (a .ended) (l .out) (reachedBy (l .n)) _ _ (v .ensures .0) (v .ensures .1 .0) room (l .rounds) (c .before .before .before .before .before .before .before .before .before .loop-test .taken) goes)
     ∙ l .inv .2
-    ∙ begun (a .f) (a .bytes .now) (a .start) (a .ended) (a .out .now) (a .at))
+    ∙ begun followProgram (a .f) (a .bytes .now) (a .start) (a .ended) (a .out .now) (a .at))
 
 same-length-2 : tie.Need-same-length-2 Inv-loop μ-loop
 same-length-2 c = omega (arith, c .before .before .before .loop .inv .1)
@@ -73,10 +74,10 @@ returns-2 : tie.Need-returns-2 Inv-loop μ-loop
 returns-2 c =
     let a = c .before .before .before .before .before .before .args in
     let l = c .before .before .before .loop in
-    parts-are
-    (sym (no-room (a .bytes .now) (a .ended) (l .out) (l .n) (l .rounds) (c .before .before .loop-test .taken) (sym (c .before .room-for .ensures) ∙ c .if1 .left))
+    parts-are followProgram
+    (sym (no-room followProgram (a .bytes .now) (a .ended) (l .out) (reachedBy (l .n)) (l .rounds) (c .before .before .loop-test .taken) (sym (c .before .has-room .ensures) ∙ c .if1 .left))
     ∙ l .inv .2
-    ∙ begun (a .f) (a .bytes .now) (a .start) (a .ended) (a .out .now) (a .at))
+    ∙ begun followProgram (a .f) (a .bytes .now) (a .start) (a .ended) (a .out .now) (a .at))
 
 same-length-3 : tie.Need-same-length-3 Inv-loop μ-loop
 same-length-3 c = omega (arith, c .before .loop .inv .1)
@@ -85,10 +86,10 @@ returns-3 : tie.Need-returns-3 Inv-loop μ-loop
 returns-3 c =
     let a = c .before .before .before .before .args in
     let l = c .before .loop in
-    parts-are
-    (sym (no-round (a .bytes .now) (a .ended) (l .out) (l .n) (l .rounds) (c .loop-test .left))
+    parts-are followProgram
+    (sym (no-round followProgram (a .bytes .now) (a .ended) (l .out) (reachedBy (l .n)) (l .rounds) (c .loop-test .left))
     ∙ l .inv .2
-    ∙ begun (a .f) (a .bytes .now) (a .start) (a .ended) (a .out .now) (a .at))
+    ∙ begun followProgram (a .f) (a .bytes .now) (a .start) (a .ended) (a .out .now) (a .at))
 
 pub follow-buffered-spec : {M : Type 1} → statement M
 follow-buffered-spec =
@@ -98,7 +99,7 @@ follow-buffered-spec =
     μ-loop
     add-rounds
     loop-holds
-    room-for-requires
+    has-room-requires
     follow-next-requires
     goes-on-requires
     sub-rounds

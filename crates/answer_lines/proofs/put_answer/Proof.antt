@@ -1,0 +1,86 @@
+-- `put_answer` puts the form of each answer, which is its line. Assumes nothing.
+use borrow.Author.Needs.{needs}
+use Rattle.answer_lines.proofs.AnswerForms.{refused-form, offer-form}
+use Rattle.answer_lines.proofs.put_answer.Statement.{statement}
+use Rattle.answer_lines.proofs.put_answer.Tie as tie
+
+enum-known-answer : tie.Need-enum-known-answer
+enum-known-answer c = search needs
+
+cast-t19 : tie.Need-cast-t19
+cast-t19 c = search needs
+
+slice-aggregate-put-form : tie.Need-slice-aggregate-put-form
+slice-aggregate-put-form c = search needs
+
+slice-aggregate-put-form-2 : tie.Need-slice-aggregate-put-form-2
+slice-aggregate-put-form-2 c = search needs
+
+put-form-requires : tie.Need-put-form-requires
+put-form-requires c κs = search needs
+
+enum-known-answer-2 : tie.Need-enum-known-answer-2
+enum-known-answer-2 c = search needs
+
+cast-t26 : tie.Need-cast-t26
+cast-t26 c = search needs
+
+slice-aggregate-put-form-3 : tie.Need-slice-aggregate-put-form-3
+slice-aggregate-put-form-3 c = search needs
+
+slice-aggregate-put-form-4 : tie.Need-slice-aggregate-put-form-4
+slice-aggregate-put-form-4 c = search needs
+
+put-form-requires-2 : tie.Need-put-form-requires-2
+put-form-requires-2 c κs = search needs
+
+enum-known-answer-3 : tie.Need-enum-known-answer-3
+enum-known-answer-3 c = search needs
+
+put-slot-requires : tie.Need-put-slot-requires
+put-slot-requires c κs = search needs
+
+same-length : tie.Need-same-length
+same-length c = search needs
+
+returns : tie.Need-returns
+returns c =
+    let a = c .before .before .before .before .before .before .before .before .before .before .args in
+    rw (c .before .before .before .before .before .before .before .answer .given .1) (rw (refused-form (a .call) (a .group) (a .c) _) at (c .before .before .put-form .ensures))
+
+same-length-2 : tie.Need-same-length-2
+same-length-2 c = search needs
+
+returns-2 : tie.Need-returns-2
+returns-2 c =
+    let a = c .before .before .before .before .before .before .before .before .before .before .args in
+    rw (c .before .before .before .before .before .before .before .answer2 .given .1) (rw (offer-form (a .call) (a .group) (a .c) _) at (c .before .before .put-form2 .ensures))
+
+same-length-3 : tie.Need-same-length-3
+same-length-3 c = search needs
+
+returns-3 : tie.Need-returns-3
+returns-3 c = rw (c .before .before .before .before .before .answer3 .given .1) (c .before .before .put-slot .ensures)
+
+pub put-answer-spec : {M : Type 1} → statement M
+put-answer-spec =
+    tie.close
+    (tie.spec
+    enum-known-answer
+    cast-t19
+    slice-aggregate-put-form
+    slice-aggregate-put-form-2
+    put-form-requires
+    enum-known-answer-2
+    cast-t26
+    slice-aggregate-put-form-3
+    slice-aggregate-put-form-4
+    put-form-requires-2
+    enum-known-answer-3
+    put-slot-requires
+    same-length
+    returns
+    same-length-2
+    returns-2
+    same-length-3
+    returns-3)

@@ -1,0 +1,45 @@
+-- The lines that `rehearse` prints for the answers of calls, and the header before them. A line begins with the call's number in the list.
+-- Bytes are numbers: letters are ASCII. Assumes nothing.
+use mathlib.Core.List.{List, [], _∷_, map}
+use Prim.Native.Nat.{ℕ, _-_}
+use lib.ListN.{getD}
+use Rattle.decimals.specs.Decimal.{digitsOf}
+use Rattle.decimals.specs.Printing.{recordOf}
+use Rattle.call_records.specs.Words.{offerWord, slotWord}
+use Rattle.turn_letters.specs.Letters.{letterOf}
+use Rattle.rules.specs.declared.Counters.{Counters}
+use Rattle.rules.specs.declared.Answer.{Answer}
+use Rattle.rules.specs.declared.Answer.the-variants.{Refused, Taken, Went}
+
+-- `refused`
+abbrev pub refusedWord : List ℕ
+refusedWord = 114 ∷ 101 ∷ 102 ∷ 117 ∷ 115 ∷ 101 ∷ 100 ∷ []
+
+-- `call,kind,group,turn,senders,index,segment,delivered,H,N,RQ`: the columns of a slot's line
+unfoldable pub headerOf : List ℕ
+headerOf =
+    recordOf
+    (
+    (99 ∷ 97 ∷ 108 ∷ 108 ∷ [])
+    ∷ (107 ∷ 105 ∷ 110 ∷ 100 ∷ [])
+    ∷ (103 ∷ 114 ∷ 111 ∷ 117 ∷ 112 ∷ [])
+    ∷ (116 ∷ 117 ∷ 114 ∷ 110 ∷ [])
+    ∷ (115 ∷ 101 ∷ 110 ∷ 100 ∷ 101 ∷ 114 ∷ 115 ∷ [])
+    ∷ (105 ∷ 110 ∷ 100 ∷ 101 ∷ 120 ∷ [])
+    ∷ (115 ∷ 101 ∷ 103 ∷ 109 ∷ 101 ∷ 110 ∷ 116 ∷ [])
+    ∷ (100 ∷ 101 ∷ 108 ∷ 105 ∷ 118 ∷ 101 ∷ 114 ∷ 101 ∷ 100 ∷ [])
+    ∷ (72 ∷ [])
+    ∷ (78 ∷ [])
+    ∷ (82 ∷ 81 ∷ [])
+    ∷ []
+    )
+
+-- THE LINE OF AN ANSWER to call `k`: `k,refused,number`; an offer's `k,offer,total`; a slot's
+-- `k,slot,group,turn,senders,index,segment,delivered,H,N,RQ`, where `c` is the counters after it, and RQ that of the slot's group
+unfoldable pub answerLine : ℕ → ℕ → Counters → Answer → List ℕ
+answerLine k group c (Refused number) = recordOf (digitsOf k ∷ refusedWord ∷ digitsOf number ∷ [])
+answerLine k group c (Taken total) = recordOf (digitsOf k ∷ offerWord ∷ digitsOf total ∷ [])
+answerLine k group c (Went turn senders index segment delivered) =
+    let queues = c .urgent ∷ c .long ∷ getD (c .resolution) (group - 1) 0 ∷ [] in
+    recordOf
+    (digitsOf k ∷ slotWord ∷ digitsOf group ∷ (letterOf turn ∷ []) ∷ map digitsOf (senders ∷ index ∷ segment ∷ delivered ∷ queues))

@@ -1,0 +1,2 @@
+pub mod OfferReads
+pub mod StartReads

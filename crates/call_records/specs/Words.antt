@@ -1,0 +1,46 @@
+-- The word that a record of `rehearse` begins with: `offer,` or `slot,` with numbers after it, or `slot` or `show` alone. Bytes are
+-- numbers: letters are ASCII, the comma is 44. Assumes nothing.
+use mathlib.Core.Bool.{Bool, true, false, cond, _&&_}
+use mathlib.Core.List.{List, [], _∷_}
+use Prim.Native.Nat.{ℕ}
+use lib.Dec.{eqb}
+use lib.ListN.{length}
+use Rattle.call_records.specs.declared.Kind.{Kind}
+use Rattle.call_records.specs.declared.Kind.the-variants.{Offer, Slot, BareSlot, Show, Unknown}
+
+-- whether a list begins with a word
+unfoldable pub prefixed : List ℕ → List ℕ → Bool
+prefixed [] l = true
+prefixed (w ∷ word) [] = false
+prefixed (w ∷ word) (b ∷ l) = eqb b w && prefixed word l
+
+-- whether it is the word
+unfoldable pub isWord : List ℕ → List ℕ → Bool
+isWord word l = eqb (length l) (length word) && prefixed word l
+
+-- `offer` and `slot`
+abbrev pub offerWord : List ℕ
+offerWord = 111 ∷ 102 ∷ 102 ∷ 101 ∷ 114 ∷ []
+
+abbrev pub slotWord : List ℕ
+slotWord = 115 ∷ 108 ∷ 111 ∷ 116 ∷ []
+
+-- `offer,` and `slot,`
+abbrev pub offerStart : List ℕ
+offerStart = 111 ∷ 102 ∷ 102 ∷ 101 ∷ 114 ∷ 44 ∷ []
+
+abbrev pub slotStart : List ℕ
+slotStart = 115 ∷ 108 ∷ 111 ∷ 116 ∷ 44 ∷ []
+
+-- `show`
+abbrev pub showWord : List ℕ
+showWord = 115 ∷ 104 ∷ 111 ∷ 119 ∷ []
+
+-- WHICH CALL A RECORD ASKS FOR
+unfoldable pub kindOf : List ℕ → Kind
+kindOf bytes =
+    cond (prefixed slotStart bytes) Slot
+    (cond (prefixed offerStart bytes) Offer
+    (cond (isWord showWord bytes) Show
+    (cond (isWord slotWord bytes) BareSlot
+    Unknown)))

@@ -1,0 +1,4 @@
+pub mod FormLaws
+pub mod Begun
+pub mod FormLines
+pub mod Samples

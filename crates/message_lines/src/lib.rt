@@ -1,0 +1,70 @@
+// The lines that `show` of `rehearse` prints of a channel's stations, written into a buffer. A line that does not fit is not written.
+use condition_lines::put_asked;
+use condition_lines::put_free;
+use condition_lines::put_fresh;
+use condition_lines::put_long;
+use condition_lines::put_resolving;
+use condition_lines::put_urgent;
+use drawing::least;
+use rules::Condition;
+use rules::Station;
+ghost use mathlib.Core.Path.{_≡_};
+ghost use mathlib.Core.List.{map};
+ghost use lib.ListN.{take};
+ghost use Rattle.decimals.specs.Putting.{putAt, placeAfter};
+ghost use Rattle.programs.specs.Buffering.{putLines, placeAfterLines};
+ghost use Rattle.message_lines.specs.MessageLines.{messageLine};
+
+// A station's line: its index and the condition of its message. Each of the following gives the place after its lines.
+fn put_message(out: &mut [u8], at: usize, call: u64, s: Station) -> usize
+    ensures buffer { λ r. ⌜ now (out .exit) ≡ putAt (now (out .entry)) at (messageLine call s) ⌝ }
+    ensures reached { λ r. ⌜ r ≡ placeAfter (now (out .entry)) at (messageLine call s) ⌝ }
+{
+    let index = s.index;
+    let condition = s.condition;
+    match condition {
+        Condition::Free => put_free(out, at, call, index),
+        Condition::Fresh { total } => put_fresh(out, at, call, index, total),
+        Condition::Asked {
+            group,
+            minislot,
+            total,
+        } => put_asked(out, at, call, index, group, minislot, total),
+        Condition::Resolving {
+            group,
+            place,
+            total,
+        } => put_resolving(out, at, call, index, group, place, total),
+        Condition::Urgent { place } => put_urgent(out, at, call, index, place),
+        Condition::Long { first, left, total } => put_long(
+            out,
+            at,
+            call,
+            index,
+            first,
+            left,
+            total,
+        ),
+    }
+}
+
+// A line for each of the first `count` stations, or of all 65 where there are no more.
+pub fn put_messages(
+    out: &mut [u8],
+    at: usize,
+    call: u64,
+    stations: [Station; 65],
+    count: usize,
+) -> usize
+    ensures buffer { λ r. ⌜ now (out .exit) ≡ putLines (now (out .entry)) at (map (messageLine call) (take count stations)) ⌝ }
+    ensures reached { λ r. ⌜ r ≡ placeAfterLines (now (out .entry)) at (map (messageLine call) (take count stations)) ⌝ }
+{
+    let end = least(count, 65);
+    let mut to = at;
+    let mut i: usize = 0;
+    while i < end {
+        to = put_message(out, to, call, stations[i]);
+        i += 1;
+    }
+    to
+}

@@ -1,0 +1,4 @@
+pub mod Listing
+pub mod ListLaws
+pub mod LowBytes
+pub mod Samples

@@ -1,0 +1,63 @@
+// A record of `rehearse` that makes a call on the channel: the channel's own call, by what the record holds.
+use call_fields::OfferFields;
+use call_fields::offer_fields;
+use number_lists::low_bytes;
+use number_lists::numbers_from;
+use rehearsing::Next;
+use rehearsing::Rehearsal;
+use rehearsing::answer_with;
+use rehearsing::end_with;
+ghost use mathlib.Core.Path.{_≡_};
+ghost use lib.ListN.{drop};
+ghost use Rattle.fields.specs.Fields.{parts};
+ghost use Rattle.number_lists.specs.NumberList.{listOf};
+ghost use Rattle.call_fields.specs.CallFields.{offerIn};
+ghost use Rattle.rehearsing.specs.Rehearsing.{offerResult, slotResult, bareResult};
+ghost use Rattle.rehearsing.specs.Rehearse.{reachedBy, resultBy};
+
+// An offer, whose numbers begin after `offer,`. 19: it breaks the form. Every other answer is a line.
+pub fn offer_record(r: Rehearsal, bytes: &[u8], next: usize, out: &mut [u8], at: usize) -> Next
+    ensures buffer { λ n. ⌜ now (out .exit)
+        ≡ resultBy r (offerResult r (offerIn (parts (drop 6 (now (bytes .entry)))))) next (now (out .entry)) at .buffer ⌝ }
+    ensures answer { λ n. ⌜ reachedBy n
+        ≡ resultBy r (offerResult r (offerIn (parts (drop 6 (now (bytes .entry)))))) next (now (out .entry)) at .answer ⌝ }
+{
+    let fields = offer_fields(bytes, 6);
+    match fields {
+        OfferFields::Broken => end_with(r, 19, next, out, at),
+        OfferFields::Numbers(index, size) => {
+            let channel = r.channel;
+            let called = local_channel::offer(channel, index, size as usize);
+            answer_with(r, called, next, out, at)
+        }
+    }
+}
+
+// A slot, whose picks begin after `slot,`. 19: it breaks the form. Every other answer is a line.
+pub fn slot_record(r: Rehearsal, bytes: &[u8], next: usize, out: &mut [u8], at: usize) -> Next
+    ensures buffer { λ n. ⌜ now (out .exit)
+        ≡ resultBy r (slotResult r (listOf 255 (parts (drop 5 (now (bytes .entry)))))) next (now (out .entry)) at .buffer ⌝ }
+    ensures answer { λ n. ⌜ reachedBy n
+        ≡ resultBy r (slotResult r (listOf 255 (parts (drop 5 (now (bytes .entry)))))) next (now (out .entry)) at .answer ⌝ }
+{
+    let list = numbers_from(bytes, 5, 255);
+    if list.number != 0 {
+        return end_with(r, list.number, next, out, at);
+    }
+    let values = list.values;
+    let picks = low_bytes(values);
+    let count = list.count;
+    let channel = r.channel;
+    let called = local_channel::slot(channel, &picks[..count]);
+    answer_with(r, called, next, out, at)
+}
+
+// A slot with no picks.
+pub fn bare_slot(r: Rehearsal, next: usize, out: &mut [u8], at: usize) -> Next
+    ensures buffer { λ n. ⌜ now (out .exit) ≡ resultBy r (bareResult r) next (now (out .entry)) at .buffer ⌝ }
+    ensures answer { λ n. ⌜ reachedBy n ≡ resultBy r (bareResult r) next (now (out .entry)) at .answer ⌝ }
+{
+    let channel = r.channel;
+    let called = local_channel::slot(channel, &[]);
+    answer_with(r, called, next, out, at)
+}

@@ -1,0 +1,284 @@
+-- The numbers of an answer on a sound channel: a refusal's is one of the paper's, at most 19; a message taken has at most 255 slots; of a slot, the
+-- senders are no more than the stations, a lone one's index and segment are a station's, and the slots delivered are no more than the
+-- minislots heard and the senders. So the line of an answer has at most 233 bytes.
+-- Assumes nothing.
+use mathlib.Core.Path.{_≡_, refl}
+use mathlib.Core.Bool.{Bool, true, false, cond, _&&_}
+use mathlib.Core.List.{List, [], _∷_, _++_, map}
+use Prim.Native.Nat.{ℕ, zero, suc, _+_, _-_, _<_, _≤_}
+use native.Mathlib.Omega.{arith}
+use lib.Dec.{eqb, ltb}
+use lib.ListN.{length, getD, take, length-map, length-take}
+use borrow.Author.Tests.{eqb-true}
+use Rattle.listlaws.specs.Lists.{each, onlyIf}
+use Rattle.message.specs.Message.{fitsMessage, slotsFor}
+use Rattle.message.proofs.Totals.{slots-bounds}
+use Rattle.minislot.specs.declared.Minislot.{Minislot}
+use Rattle.minislot.specs.declared.Feedback.{Feedback}
+use Rattle.minislot.specs.declared.Feedback.the-variants.{Empty, Single, Collide}
+use Rattle.rows.specs.Row.{readings, feedbacks}
+use Rattle.rules.specs.declared.Answer.{Answer}
+use Rattle.rules.specs.declared.Answer.the-variants.{Refused, Taken, Went}
+use Rattle.rules.specs.declared.Counters.{Counters}
+use Rattle.rules.specs.declared.Landed.{Landed}
+use Rattle.rules.specs.declared.Outcome.{Outcome}
+use Rattle.rules.specs.declared.Station.{Station}
+use Rattle.rules.specs.declared.StationSlot.{StationSlot}
+use Rattle.rules.specs.declared.Turn.{Turn}
+use Rattle.rules.specs.declared.Turn.the-variants.{Urgent as UrgentTurn, Long as LongTurn, Resolve as ResolveTurn, Open as OpenTurn}
+use Rattle.rules.specs.declared.Condition.{Condition}
+use Rattle.rules.specs.declared.Condition.the-variants.{Free, Fresh, Asked, Resolving, Urgent, Long}
+use Rattle.rules.specs.Calls.{Call, Offer, Slot}
+use Rattle.rules.specs.Refusing.{unless, byNumber}
+use Rattle.rules.specs.Limits.{between}
+use Rattle.rules.specs.Hearing.{wordsOf, countsOf}
+use Rattle.rules.specs.declared.Landing.{Landing}
+use Rattle.rules.specs.declared.Landing.the-variants.{Gone, ToUrgent, ToLong, ToResolution}
+use Rattle.rules.specs.Landing.{at, stands}
+use Rattle.rules.specs.Requesting.{requests, totalOf}
+use Rattle.rules.specs.Serving.{sends}
+use Rattle.rules.specs.Outcome.{successes, outcomeBy, outcomeOf}
+use Rattle.rules.specs.Stepping.{settledIn, actsOf, stepOf}
+use Rattle.rules.specs.StationLimits.{stationWithin}
+use Rattle.rules.specs.StationCalls.{isFree, takingNumberOf, slotNumberOf, slotOf, refusedSlot}
+use Rattle.rules.specs.Queueing.{stepOneOf}
+use Rattle.rules.proofs.LimitLaws.{Within, within-limits, station-in}
+use Rattle.rules.proofs.Refusals.{test-passed}
+use Rattle.rules.proofs.Walking.{feedbacks-short}
+use Rattle.channel_rules.specs.Soundness.{soundTable, tableCounters}
+use Rattle.channel_rules.specs.SoundMeaning.{stationAt}
+use Rattle.channel_rules.specs.ChannelCalls.{Channel, ChannelResult, hasStations, refused, hasIndex, stationOf, positionOf, takenAt, channelOfferNumberOf, channelOfferOf, channelCall}
+use Rattle.channel_rules.specs.ChannelCalls.{blankRow, heardRow, feedbackHeard, slotsOf, slotsHeard, outcomeHeard, slotThrough, channelSlotNumberOf, channelSlotOf}
+use Rattle.channel_rules.specs.ChannelCalls.{DataSent, dataIn, dataSent, loneIndex, loneSegment, deliveredNow}
+use Rattle.decimals.specs.Decimal.{digitsOf}
+use Rattle.call_records.specs.Words.{offerWord, slotWord}
+use Rattle.rules.proofs.Refusals.{unless-low}
+use Rattle.turn_letters.specs.Letters.{letterOf}
+use Rattle.answer_lines.specs.AnswerLines.{refusedWord, answerLine}
+use Rattle.rehearse_reads.specs.Bounds.{SoundChannel}
+use Rattle.rehearse_reads.proofs.LineBounds.{Held, AllHeld, line-within, number-short, numbers-short}
+use Rattle.rehearse_reads.proofs.StationBounds.{Small, small, resolution-most}
+use Rattle.rehearse_reads.proofs.ShowBounds.{counters-within}
+
+-- ---- numbers of refusal
+
+taking-low : (x : Condition) (bytes : ℕ) → takingNumberOf x bytes ≤ 19
+taking-low x bytes = unless-low (isFree x) 9 _ (omega arith) (unless-low (fitsMessage bytes) 10 0 (omega arith) (omega arith))
+
+offer-low : (ch : Channel) (index bytes : ℕ) → channelOfferNumberOf ch index bytes ≤ 19
+unfolding channelOfferNumberOf
+offer-low ch index bytes =
+    unless-low (hasStations (ch .stations)) 14 _ (omega arith)
+    (unless-low (soundTable (ch .stations) (ch .wire)) 18 _ (omega arith)
+    (unless-low (hasIndex ch index) 16 _ (omega arith) (taking-low (stationOf ch index .condition) bytes)))
+
+slot-low : (ch : Channel) (picks : List ℕ) → channelSlotNumberOf ch picks ≤ 19
+unfolding channelSlotNumberOf
+slot-low ch picks =
+    unless-low (hasStations (ch .stations)) 14 _ (omega arith)
+    (unless-low (soundTable (ch .stations) (ch .wire)) 18 _ (omega arith)
+    (unless-low (eqb (length picks) (length (ch .stations))) 17 _ (omega arith)
+    (unless-low (each (λ (pick : ℕ). between 1 pick (tableCounters (ch .stations) .minislots)) picks) 11 _ (omega arith)
+    (unless-low (stepOneOf (tableCounters (ch .stations)) (feedbackHeard ch) .fits) 7 0 (omega arith) (omega arith)))))
+
+-- ---- an answer's numbers
+
+abbrev pub AnswerHeld : Answer → Type 0
+AnswerHeld (Refused number) = number ≤ 19
+AnswerHeld (Taken total) = total ≤ 255
+AnswerHeld (Went turn senders index segment delivered) = (senders ≤ 64) × (index ≤ 923) × (segment ≤ 255) × (delivered ≤ 72)
+
+-- by the number of the call
+by-both : (ch : Channel) (n : ℕ) (through : ChannelResult) → n ≤ 19 → (n ≡ 0 → AnswerHeld (through .answer))
+    → AnswerHeld (byNumber n (refused ch) through .answer)
+by-both ch n through low t = go (eqb n 0) refl
+  where
+    go : (b : Bool) → eqb n 0 ≡ b → AnswerHeld (cond b through (refused ch n) .answer)
+    go true e = t (eqb-true n 0 e)
+    go false e = low
+
+-- ---- an offer
+
+offer-held : (ch : Channel) (index bytes : ℕ) → AnswerHeld (channelOfferOf ch index bytes .answer)
+unfolding channelOfferOf channelOfferNumberOf
+offer-held ch index bytes =
+    by-both ch (channelOfferNumberOf ch index bytes) (takenAt ch (positionOf index (ch .stations)) bytes) (offer-low ch index bytes) taken
+  where
+    taken : channelOfferNumberOf ch index bytes ≡ 0 → slotsFor bytes ≤ 255
+    taken z =
+        let p₁ = test-passed (hasStations (ch .stations)) 14 _ refl z in
+        let p₂ = test-passed (soundTable (ch .stations) (ch .wire)) 18 _ refl (p₁ .1) in
+        let p₃ = test-passed (hasIndex ch index) 16 _ refl (p₂ .1) in
+        let p₄ = test-passed (isFree (stationOf ch index .condition)) 9 _ refl (p₃ .1) in
+        let p₅ = test-passed (fitsMessage bytes) 10 0 refl (p₄ .1) in
+        slots-bounds bytes (p₅ .0) .1
+
+-- ---- a slot: what one station sends
+
+small-total : (x : Condition) → Small x → totalOf x ≤ 255
+small-total Free w = omega arith
+small-total (Fresh t) w = w
+small-total (Asked g j t) w = w .2
+small-total (Resolving g i t) w = w .2
+small-total (Urgent i) w = omega arith
+small-total (Long f l t) w = w .2
+
+settled-few : (landed : List Landed) (g : ℕ) (x : Condition) → totalOf x ≤ 255 → totalOf (settledIn landed g x) ≤ 255
+unfolding settledIn
+settled-few landed g Free h = h
+settled-few landed g (Fresh t) h = h
+settled-few landed g (Asked y j t) h = go (eqb y g) (getD landed (j - 1) (at Gone) .landing)
+  where
+    go : (b : Bool) (x : Landing) → totalOf (cond b (stands g x t) (Asked y j t)) ≤ 255
+    go true Gone = omega arith
+    go true (ToUrgent i) = omega arith
+    go true (ToLong f) = h
+    go true (ToResolution i) = h
+    go false x = h
+settled-few landed g (Resolving y i t) h = h
+settled-few landed g (Urgent i) h = h
+settled-few landed g (Long f l t) h = h
+
+if-few : (b : Bool) (n : ℕ) → n ≤ 255 → cond b n 0 ≤ 255
+if-few true n h = h
+if-few false n h = omega arith
+
+sends-few : (turn : Turn) (r g : ℕ) (x : Condition) → totalOf x ≤ 255 → sends turn r g x ≤ 255
+unfolding sends
+sends-few UrgentTurn r g Free h = omega arith
+sends-few UrgentTurn r g (Fresh t) h = omega arith
+sends-few UrgentTurn r g (Asked y j t) h = omega arith
+sends-few UrgentTurn r g (Resolving y i t) h = omega arith
+sends-few UrgentTurn r g (Urgent i) h = if-few (eqb i 1) 1 (omega arith)
+sends-few UrgentTurn r g (Long f l t) h = omega arith
+sends-few LongTurn r g Free h = omega arith
+sends-few LongTurn r g (Fresh t) h = omega arith
+sends-few LongTurn r g (Asked y j t) h = omega arith
+sends-few LongTurn r g (Resolving y i t) h = omega arith
+sends-few LongTurn r g (Urgent i) h = omega arith
+sends-few LongTurn r g (Long f l t) h = if-few (eqb f 1) (t - (l - 1)) (omega arith)
+sends-few ResolveTurn r g x h = omega arith
+sends-few OpenTurn r g x h = if-few (requests r g x && eqb (totalOf x) 1) 1 (omega arith)
+
+-- ---- what all of them send
+
+-- data senders of which each has a station's index and a segment of a message
+abbrev AllSent : List DataSent → Type 0
+AllSent [] = Unit {0}
+AllSent (x ∷ l) = (x .index ≤ 923) × (x .segment ≤ 255) × AllSent l
+
+-- no more than n, and all of them such
+abbrev Few : ℕ → List DataSent → Type 0
+Few n l = (length l ≤ n) × AllSent l
+
+more : (a b : List DataSent) (n : ℕ) → Few 1 a → Few n b → Few (suc n) (a ++ b)
+more [] b n p q = (omega (arith, q .0), q .1)
+more (x ∷ []) b n p q = (omega (arith, q .0), (p .1 .0, p .1 .1, q .1))
+more (x ∷ y ∷ a) b n p q = absurd (omega (arith, p .0))
+
+lone : (l : List DataSent) → AllSent l → (loneIndex l ≤ 923) × (loneSegment l ≤ 255)
+lone [] p = omega arith
+lone (x ∷ []) p = (p .0, p .1)
+lone (x ∷ y ∷ l) p = omega arith
+
+-- the data of one station's slot
+abbrev dataOf : StationSlot → List DataSent
+dataOf r = dataIn r (r .answer)
+
+step-sends : (o : Outcome) (s : Station) (pick : ℕ) → stationWithin s ≡ true → Few 1 (dataOf (stepOf o s pick))
+unfolding stepOf actsOf
+step-sends o s pick e =
+    let i = station-in s e in
+    let total = small-total (s .condition) (small (s .counters) (within-limits (s .counters) (i .counters)) (s .condition) (i .condition)) in
+    let stands = settledIn (o .landed) (o .group) (s .condition) in
+    let segment = sends (o .turn) (o .resolution) (o .group) stands in
+    only (ltb 0 segment) segment (i .index) (sends-few (o .turn) (o .resolution) (o .group) stands (settled-few (o .landed) (o .group) (s .condition) total))
+  where
+    only : (b : Bool) (segment : ℕ) → s .index ≤ 923 → segment ≤ 255 → Few 1 (onlyIf b (record { index = s .index; segment = segment } ∷ []))
+    only true segment l h = (omega arith, (l, h, tt))
+    only false segment l h = (omega arith, tt)
+
+module _ (words counts : List ℕ) where
+  one-sends : (s : Station) (pick : ℕ) → stationWithin s ≡ true → Few 1 (dataOf (slotOf s words counts pick))
+  unfolding slotOf
+  one-sends s pick e = go (eqb (slotNumberOf s words counts pick) 0)
+    where
+      o : Outcome
+      o = outcomeOf (s .counters) (feedbacks (readings words counts))
+
+      go : (b : Bool) → Few 1 (dataOf (cond b (stepOf o s pick) (refusedSlot s (slotNumberOf s words counts pick))))
+      go true = step-sends o s pick e
+      go false = (omega arith, tt)
+
+  all-send : (l : List Station) (picks : List ℕ) → ((k : ℕ) → k < length l → stationWithin (stationAt l k) ≡ true)
+      → Few (length l) (dataSent (slotsOf words counts l picks))
+  all-send [] picks w = (omega arith, tt)
+  all-send (s ∷ l) [] w = (omega arith, tt)
+  all-send (s ∷ l) (pick ∷ picks) w =
+      more (dataOf (slotOf s words counts pick)) (dataSent (slotsOf words counts l picks)) (length l) (one-sends s pick (w zero (omega arith)))
+      (all-send l picks (λ k h. w (suc k) (omega arith)))
+
+-- ---- what is delivered
+
+successes-few : (b : Bool) (row : List Feedback) → successes b row ≤ length row
+successes-few b [] = omega arith
+successes-few b (Empty ∷ row) = omega (arith, successes-few b row)
+successes-few b (Single i c ∷ row) = go (b && eqb c 1) (successes-few b row)
+  where
+    go : (x : Bool) → successes b row ≤ length row → cond x 1 0 + successes b row ≤ suc (length row)
+    go true h = omega arith
+    go false h = omega arith
+successes-few b (Collide ∷ row) = omega (arith, successes-few b row)
+
+now-few : (turn : Turn) (senders : ℕ) → deliveredNow turn senders ≤ senders
+now-few UrgentTurn senders = omega arith
+now-few LongTurn senders = omega arith
+now-few ResolveTurn senders = omega arith
+now-few OpenTurn senders = omega arith
+
+heard-few : (ch : Channel) → tableCounters (ch .stations) .minislots ≤ 8 → length (feedbackHeard ch) ≤ 8
+unfolding heardRow
+heard-few ch h =
+    let m = tableCounters (ch .stations) .minislots in
+    let row = getD (ch .wire) (tableCounters (ch .stations) .next - 1) blankRow .minislots in
+    omega (arith, feedbacks-short (wordsOf (take m row)) (countsOf (take m row)), length-map (take m row) (λ (s : Minislot). s .word), length-take m row)
+
+slot-held : (ch : Channel) → SoundChannel ch → (picks : List ℕ) → AnswerHeld (channelSlotOf ch picks .answer)
+unfolding channelSlotOf outcomeBy
+slot-held ch s picks =
+    by-both ch (channelSlotNumberOf ch picks) (slotThrough ch (outcomeHeard ch) (slotsHeard ch picks)) (slot-low ch picks) (λ z.
+    let sent = dataSent (slotsHeard ch picks) in
+    let p = all-send (wordsOf (heardRow ch)) (countsOf (heardRow ch)) (ch .stations) picks (s .sound .within) in
+    let l = lone sent (p .1) in
+    let one = stepOneOf (tableCounters (ch .stations)) (feedbackHeard ch) in (
+      omega (arith, p .0, s .few),
+      l .0,
+      l .1,
+      omega (
+        arith,
+        p .0,
+        s .few,
+        now-few (outcomeHeard ch .turn) (length sent),
+        successes-few (one .success) (feedbackHeard ch),
+        heard-few ch (counters-within ch s .minislots .1),
+      ),
+    ))
+
+pub call-held : (ch : Channel) → SoundChannel ch → (call : Call) → AnswerHeld (channelCall ch call .answer)
+call-held ch s (Offer index bytes) = offer-held ch index bytes
+call-held ch s (Slot picks) = slot-held ch s picks
+
+-- ---- THE LINE
+
+pub answer-line : (k group : ℕ) (c : Counters) (a : Answer) → Held k → Held group → Within c → AnswerHeld a → length (answerLine k group c a) ≤ 233
+unfolding answerLine
+answer-line k group c (Refused number) hk hg w h =
+    let l = line-within (digitsOf k ∷ refusedWord ∷ digitsOf number ∷ []) (omega (arith, number-short k hk, number-short number (omega arith))) in omega (arith, l)
+answer-line k group c (Taken total) hk hg w h =
+    let l = line-within (digitsOf k ∷ offerWord ∷ digitsOf total ∷ []) (omega (arith, number-short k hk, number-short total (omega arith))) in omega (arith, l)
+answer-line k group c (Went turn senders index segment delivered) hk hg w h =
+    let rq = getD (c .resolution) (group - 1) 0 in
+    let numbers = senders ∷ index ∷ segment ∷ delivered ∷ c .urgent ∷ c .long ∷ rq ∷ [] in
+    let held : AllHeld numbers = omega (arith, h, w .urgent, w .long, resolution-most c w (group - 1)) in
+    line-within (digitsOf k ∷ slotWord ∷ digitsOf group ∷ (letterOf turn ∷ []) ∷ map digitsOf numbers)
+    (number-short k hk, (omega arith, (number-short group hg, (omega arith, numbers-short numbers held))))

@@ -1,0 +1,7 @@
+pub mod LineBounds
+pub mod StationBounds
+pub mod WireBounds
+pub mod ShowBounds
+pub mod AnswerBounds
+pub mod GoodKept
+pub mod Instance

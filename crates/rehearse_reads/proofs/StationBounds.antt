@@ -1,0 +1,126 @@
+-- The numbers of counters and of a station's record that are within their limits are numbers of 64 bits: so the lines that `show` prints of
+-- the counters, of a group and of a station's message have at most 149 bytes.
+-- Assumes nothing.
+use mathlib.Core.Path.{_≡_}
+use mathlib.Core.Bool.{Bool, true, false, cond, _&&_}
+use mathlib.Core.List.{[], _∷_}
+use mathlib.Core.Logic.{by-cases}
+use Prim.Native.Nat.{ℕ, _+_, _-_, _≤_}
+use native.Mathlib.Omega.{arith}
+use native.Mathlib.Decide.{decLt}
+use lib.Dec.{leb, ltb, eqb}
+use lib.ListN.{length, getD, List·getD-eq-default}
+use borrow.Author.Tests.{leb-true, eqb-true}
+use Rattle.listlaws.specs.Every.{everyFrom}
+use Rattle.listlaws.proofs.Table.{every-at}
+use Rattle.rules.specs.declared.Counters.{Counters}
+use Rattle.rules.specs.declared.Station.{Station}
+use Rattle.rules.specs.declared.Condition.{Condition}
+use Rattle.rules.specs.declared.Condition.the-variants.{Free, Fresh, Asked, Resolving, Urgent, Long}
+use Rattle.rules.specs.Limits.{between, resolutionWithin, openedWithin, groupsWithin}
+use Rattle.rules.specs.StationLimits.{isTotal, resolutionAt, conditionWithin, stationWithin}
+use Rattle.rules.proofs.LimitLaws.{Within, within-limits, between-bounds, station-in}
+use Rattle.rules.proofs.SlotStep.{and-both}
+use Rattle.decimals.specs.Decimal.{digitsOf}
+use Rattle.condition_lines.specs.ConditionLines.{messageWord, conditionFields, conditionLine}
+use Rattle.message_lines.specs.MessageLines.{messageLine}
+use Rattle.counter_lines.specs.CounterLines.{markWord, countersLine, groupLine}
+use Rattle.rehearse_reads.proofs.LineBounds.{Short, Held, AllHeld, line-within, number-short, numbers-short}
+
+-- ---- counters
+
+-- each RQ is within its limit, and so is what stands for a missing one
+pub resolution-most : (c : Counters) → Within c → (i : ℕ) → getD (c .resolution) i 0 ≤ 4095
+unfolding groupsWithin
+resolution-most c w i =
+    by-cases (decLt i (length (c .resolution)))
+    (λ h. go (ltb i (c .groups)) (every-at (resolutionWithin (c .groups)) 0 (c .resolution) tests i h))
+    (λ h. let e : getD (c .resolution) i 0 ≡ 0 = List·getD-eq-default (c .resolution) 0 (omega arith) in omega arith)
+  where
+    tests : everyFrom (resolutionWithin (c .groups)) 0 (c .resolution) ≡ true
+    tests =
+        let p = and-both (eqb (length (c .resolution)) 8 && eqb (length (c .opened)) 8 && everyFrom (resolutionWithin (c .groups)) 0 (c .resolution))
+        (everyFrom (openedWithin (c .groups)) 0 (c .opened)) (w .arrays) in
+        and-both (eqb (length (c .resolution)) 8 && eqb (length (c .opened)) 8) (everyFrom (resolutionWithin (c .groups)) 0 (c .resolution)) (p .0) .1
+
+    go : (b : Bool) → cond b (leb (getD (c .resolution) i 0) 4095) (eqb (getD (c .resolution) i 0) 0) ≡ true → getD (c .resolution) i 0 ≤ 4095
+    go true e = leb-true (getD (c .resolution) i 0) 4095 e
+    go false e = let z = eqb-true (getD (c .resolution) i 0) 0 e in omega arith
+
+pub counters-line : (k : ℕ) (c : Counters) → Held k → Within c → length (countersLine k c) ≤ 149
+unfolding countersLine
+counters-line k c h w =
+    let numbers = c .minislots ∷ c .groups ∷ c .next ∷ c .urgent ∷ c .long ∷ [] in
+    let held : AllHeld numbers = omega (arith, w .minislots, w .groups, w .next, w .urgent, w .long) in
+    line-within _ (number-short k h, (omega arith, numbers-short numbers held))
+
+mark-short : (b : Bool) → length (markWord b) ≤ 20
+mark-short true = omega arith
+mark-short false = omega arith
+
+pub group-line : (k : ℕ) (c : Counters) (g : ℕ) → Held k → Within c → g ≤ 8 → length (groupLine k c g) ≤ 107
+unfolding groupLine
+group-line k c g h w l =
+    let r = number-short (getD (c .resolution) (g - 1) 0) (omega (arith, resolution-most c w (g - 1))) in
+    line-within _ (omega (arith, number-short k h, number-short g (omega arith), r, mark-short (getD (c .opened) (g - 1) true)))
+
+-- ---- a station's message
+
+total-most : (t : ℕ) → isTotal t ≡ true → t ≤ 255
+total-most t e = between-bounds 1 t 255 e .1
+
+-- the numbers that a condition holds
+abbrev pub Small : Condition → Type 0
+Small Free = Unit {0}
+Small (Fresh t) = t ≤ 255
+Small (Asked g j t) = (g ≤ 8) × (j ≤ 8) × (t ≤ 255)
+Small (Resolving g i t) = (g ≤ 8) × (i ≤ 4095) × (t ≤ 255)
+Small (Urgent i) = i ≤ 4095
+Small (Long f l t) = (f ≤ 65536) × (l ≤ 255) × (t ≤ 255)
+
+pub small : (c : Counters) → Within c → (x : Condition) → conditionWithin c x ≡ true → Small x
+unfolding conditionWithin
+small c w Free e = tt
+small c w (Fresh t) e = total-most t e
+small c w (Asked g j t) e =
+    let (p, q) = and-both (between 1 g (c .groups) && between 1 j (c .minislots)) (isTotal t) e in
+    let (a, b) = and-both (between 1 g (c .groups)) (between 1 j (c .minislots)) p in
+    let l = between-bounds 1 g (c .groups) a .1 in
+    let m = between-bounds 1 j (c .minislots) b .1 in
+    (omega (arith, l, w .groups), omega (arith, m, w .minislots), total-most t q)
+small c w (Resolving g i t) e =
+    let (p, q) = and-both (between 1 g (c .groups) && between 1 i (resolutionAt c g)) (isTotal t) e in
+    let (a, b) = and-both (between 1 g (c .groups)) (between 1 i (resolutionAt c g)) p in
+    let l = between-bounds 1 g (c .groups) a .1 in
+    let m = between-bounds 1 i (resolutionAt c g) b .1 in
+    (omega (arith, l, w .groups), omega (arith, m, resolution-most c w (g - 1)), total-most t q)
+small c w (Urgent i) e = let l = between-bounds 1 i (c .urgent) e .1 in omega (arith, l, w .urgent)
+small c w (Long f l t) e =
+    let (p, q) = and-both (between 2 t 255 && between 1 l t && leb 1 f) (leb (f + l) (c .long + 1)) e in
+    let (r, s) = and-both (between 2 t 255 && between 1 l t) (leb 1 f) p in
+    let (u, v) = and-both (between 2 t 255) (between 1 l t) r in
+    let t-most = between-bounds 2 t 255 u .1 in
+    let l-most = between-bounds 1 l t v .1 in
+    let sum = leb-true (f + l) (c .long + 1) q in
+    (omega (arith, sum, w .long), omega (arith, t-most, l-most), t-most)
+
+-- with the three fields before it, in a line
+abbrev Fits : Condition → Type 0
+Fits x = (length (conditionFields x) ≤ 4) × Short (conditionFields x)
+
+condition-fits : (x : Condition) → Small x → Fits x
+condition-fits Free s = omega arith
+condition-fits (Fresh t) s = omega (arith, number-short t (omega arith))
+condition-fits (Asked g j t) s = omega (arith, number-short g (omega (arith, s)), number-short j (omega (arith, s)), number-short t (omega (arith, s)))
+condition-fits (Resolving g i t) s = omega (arith, number-short g (omega (arith, s)), number-short i (omega (arith, s)), number-short t (omega (arith, s)))
+condition-fits (Urgent i) s = omega (arith, number-short i (omega arith))
+condition-fits (Long f l t) s = omega (arith, number-short f (omega (arith, s)), number-short l (omega (arith, s)), number-short t (omega (arith, s)))
+
+pub message-line : (k : ℕ) (s : Station) → Held k → stationWithin s ≡ true → length (messageLine k s) ≤ 149
+unfolding messageLine conditionLine
+message-line k s h e =
+    let i = station-in s e in
+    let f = condition-fits (s .condition) (small (s .counters) (within-limits (s .counters) (i .counters)) (s .condition) (i .condition)) in
+    let l = line-within (digitsOf k ∷ messageWord ∷ digitsOf (s .index) ∷ conditionFields (s .condition))
+    (number-short k h, (omega arith, (number-short (s .index) (omega (arith, i .index)), f .1))) in
+    omega (arith, l, f .0)

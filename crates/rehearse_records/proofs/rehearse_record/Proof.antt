@@ -1,0 +1,125 @@
+-- `rehearse_record` meets its contract: the first record is the start, a later one goes by its word. Assumes nothing.
+use borrow.Author.Needs.{needs}
+use mathlib.Core.Path.{sym, _∙_}
+use Rattle.rehearsing.proofs.Results.{as-result}
+use Rattle.rehearse_records.proofs.Ways.{first-starts, later-calls}
+use Rattle.rehearse_records.proofs.rehearse_record.Statement.{statement}
+use Rattle.rehearse_records.proofs.rehearse_record.Tie as tie
+
+start-record-requires : tie.Need-start-record-requires
+start-record-requires c κs = search needs
+
+same-length : tie.Need-same-length
+same-length c = search needs
+
+returns : tie.Need-returns
+returns c =
+    let a = c .before .before .before .before .before .before .before .before .args in
+    as-result (a .r) (a .next) (a .out .now) (a .at) (first-starts (a .r) (a .bytes .now) (c .before .before .before .before .if1 .taken)) (c .before .before .start-record .ensures)
+
+kind-of-requires : tie.Need-kind-of-requires
+kind-of-requires c κs = search needs
+
+enum-told : tie.Need-enum-told
+enum-told c = search needs
+
+slot-record-requires : tie.Need-slot-record-requires
+slot-record-requires c κs = search needs
+
+enum-told-2 : tie.Need-enum-told-2
+enum-told-2 c = search needs
+
+offer-record-requires : tie.Need-offer-record-requires
+offer-record-requires c κs = search needs
+
+enum-told-3 : tie.Need-enum-told-3
+enum-told-3 c = search needs
+
+bare-slot-requires : tie.Need-bare-slot-requires
+bare-slot-requires c κs = search needs
+
+enum-told-4 : tie.Need-enum-told-4
+enum-told-4 c = search needs
+
+show-record-requires : tie.Need-show-record-requires
+show-record-requires c κs = search needs
+
+enum-told-5 : tie.Need-enum-told-5
+enum-told-5 c = search needs
+
+end-with-requires : tie.Need-end-with-requires
+end-with-requires c κs = search needs
+
+same-length-2 : tie.Need-same-length-2
+same-length-2 c = search needs
+
+returns-2 : tie.Need-returns-2
+returns-2 c =
+    let a = c .before .before .before .before .before .before .before .before .before .before .before .args in
+    let kind = sym (c .before .before .before .before .before .before .kind-of .ensures) ∙ c .before .before .before .before .enum-told .given .1 in
+    as-result (a .r) (a .next) (a .out .now) (a .at) (later-calls (a .r) (a .bytes .now) (c .before .before .before .before .before .before .before .if1 .left) kind) (c .before .before .slot-record .ensures)
+
+same-length-3 : tie.Need-same-length-3
+same-length-3 c = search needs
+
+returns-3 : tie.Need-returns-3
+returns-3 c =
+    let a = c .before .before .before .before .before .before .before .before .before .before .before .args in
+    let kind = sym (c .before .before .before .before .before .before .kind-of .ensures) ∙ c .before .before .before .before .enum-told2 .given .1 in
+    as-result (a .r) (a .next) (a .out .now) (a .at) (later-calls (a .r) (a .bytes .now) (c .before .before .before .before .before .before .before .if1 .left) kind) (c .before .before .offer-record .ensures)
+
+same-length-4 : tie.Need-same-length-4
+same-length-4 c = search needs
+
+returns-4 : tie.Need-returns-4
+returns-4 c =
+    let a = c .before .before .before .before .before .before .before .before .before .before .before .args in
+    let kind = sym (c .before .before .before .before .before .before .kind-of .ensures) ∙ c .before .before .before .before .enum-told3 .given .1 in
+    as-result (a .r) (a .next) (a .out .now) (a .at) (later-calls (a .r) (a .bytes .now) (c .before .before .before .before .before .before .before .if1 .left) kind) (c .before .before .bare-slot .ensures)
+
+same-length-5 : tie.Need-same-length-5
+same-length-5 c = search needs
+
+returns-5 : tie.Need-returns-5
+returns-5 c =
+    let a = c .before .before .before .before .before .before .before .before .before .before .before .args in
+    let kind = sym (c .before .before .before .before .before .before .kind-of .ensures) ∙ c .before .before .before .before .enum-told4 .given .1 in
+    as-result (a .r) (a .next) (a .out .now) (a .at) (later-calls (a .r) (a .bytes .now) (c .before .before .before .before .before .before .before .if1 .left) kind) (c .before .before .show-record .ensures)
+
+same-length-6 : tie.Need-same-length-6
+same-length-6 c = search needs
+
+returns-6 : tie.Need-returns-6
+returns-6 c =
+    let a = c .before .before .before .before .before .before .before .before .before .before .before .args in
+    let kind = sym (c .before .before .before .before .before .before .kind-of .ensures) ∙ c .before .before .before .before .enum-told5 .given .1 in
+    as-result (a .r) (a .next) (a .out .now) (a .at) (later-calls (a .r) (a .bytes .now) (c .before .before .before .before .before .before .before .if1 .left) kind) (c .before .before .end-with .ensures)
+
+pub rehearse-record-spec : {M : Type 1} → statement M
+rehearse-record-spec =
+    tie.close
+    (tie.spec
+    start-record-requires
+    same-length
+    returns
+    kind-of-requires
+    enum-told
+    slot-record-requires
+    enum-told-2
+    offer-record-requires
+    enum-told-3
+    bare-slot-requires
+    enum-told-4
+    show-record-requires
+    enum-told-5
+    end-with-requires
+    same-length-2
+    returns-2
+    same-length-3
+    returns-3
+    same-length-4
+    returns-4
+    same-length-5
+    returns-5
+    same-length-6
+    returns-6)

@@ -1,4 +1,0 @@
-pub mod Steps
-pub mod Whole
-pub mod Pieces
-pub mod Shifts

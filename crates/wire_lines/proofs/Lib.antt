@@ -1,0 +1,3 @@
+pub mod GroupRuns
+pub mod WireForms
+pub mod RowValues

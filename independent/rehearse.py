@@ -1,0 +1,374 @@
+#!/usr/bin/env python3
+"""`rehearse` written a second time, over the plain channel (plain.py) and not from the Rattle programs, and the lists of calls that it is run on.
+
+  rehearse.py               rehearse the list on standard input, bytes in and bytes out
+  rehearse.py list          each list: a line with its file's name, what is printed for it, and an empty line (crates/rehearse_run/stdout)
+  rehearse.py names         the name of each list's file, a line each (crates/rehearse_run/stdin)
+  rehearse.py write FOLDER  each list as FOLDER/NAME.csv (crates/rehearse_run/data)
+  rehearse.py try PROGRAM   run PROGRAM on each list, and on some larger ones, by standard input, by file name and a few bytes at a time, and compare
+  rehearse.py long STATIONS SLOTS
+                            a list of that many slots for timing, with eight offers after every 24th
+"""
+import sys
+
+from plain import Plain, Refusal
+from recordings import command, lines, numbers_of, printed, zeros
+
+HEADER = b"call,kind,group,turn,senders,index,segment,delivered,H,N,RQ\r\n"
+LONGEST = 512
+# the largest number that each parameter holds; the bytes of an offer are any number of five digits
+MINISLOTS = GROUPS = PICKED = 255
+INDEX = 65535
+BYTES = 99999
+
+
+def line(*values):
+    return ",".join(str(value) for value in values).encode() + b"\r\n"
+
+
+def held(fields, most):
+    """The fields' numbers, one for each parameter. 19: another count of them, or a number above the most that its parameter holds."""
+    numbers = numbers_of(fields)
+    if len(numbers) != len(most) or any(x > y for x, y in zip(numbers, most)):
+        raise Refusal(19)
+    return numbers
+
+
+class Rehearsal:
+    """A run: no channel before the first record, then one and the number of the calls made on it.
+
+    A record is read whole before it is done. So 19, as a start's own refusal, leaves `step` and ends the output; a call's refusal is a line of it.
+    """
+    def __init__(self):
+        self.channel = None
+        self.calls = 0
+
+    def step(self, record):
+        fields = record.split(b",")
+        if self.channel is None:
+            m, n, *indexes = held(fields, [MINISLOTS, GROUPS] + [INDEX] * (len(fields) - 2))
+            self.channel = Plain(len(indexes), m, n, indexes)
+            return b""
+        word, *rest = fields
+        if word == b"offer":
+            call, numbers = self.offer, held(rest, [INDEX, BYTES])
+        elif word == b"slot":
+            call, numbers = self.slot, held(rest, [PICKED] * len(rest))
+        elif word == b"show":
+            call, numbers = self.show, held(rest, [])
+        else:
+            raise Refusal(19)
+        self.calls += 1
+        try:
+            return call(*numbers)
+        except Refusal as refusal:
+            return self.line("refused", refusal.args[0])
+
+    def line(self, *values):
+        return line(self.calls, *values)
+
+    def offer(self, index, bytes):
+        return self.line("offer", self.channel.offer(index, bytes))
+
+    def slot(self, *picks):
+        group = self.channel.group
+        turn, *values = self.channel.slot(picks)
+        _, _, _, H, N, *rest = self.channel.counters()
+        return self.line("slot", group, turn[0], *values, H, N, rest[group - 1])
+
+    def show(self):
+        channel = self.channel
+        m, n, following, H, N, *rest = channel.counters()
+        resolution, marks = rest[:8], rest[8:]
+        out = [self.line("counters", m, n, following, H, N)]
+        out += [self.line("group", g, resolution[g - 1], "yes" if marks[g - 1] else "no") for g in range(1, n + 1)]
+        out += [self.line("message", index, *condition) for index, condition in zip(channel.indexes, channel.conditions())]
+        for g, row in enumerate(channel.wire()[:n], start=1):
+            out.append(self.line("wire", g, *[x for minislot in row[:m] for x in minislot]))
+        return b"".join(out)
+
+
+def rehearse(data):
+    return printed(data, LONGEST, HEADER, Rehearsal().step)
+
+
+# ---- what the lists are made of
+
+ARRIVES, KIND, SIZE, PICK, BAD, BAD_KIND = range(1, 7)
+
+
+def scrambled(x):
+    product = x * 2654435761 % 2**32
+    return product // 65536 + product % 65536 * 65536
+
+
+def draw(s, k, question, bound):
+    """A number below the bound: of slot s, station k and a question, the same on every run."""
+    x = (s << 16) + (k << 8) + question
+    return scrambled(scrambled(scrambled(x))) // 256 % bound
+
+
+def start(m, n, indexes):
+    return ",".join(str(x) for x in [m, n, *indexes])
+
+
+def slot(picks):
+    return ",".join(["slot", *[str(p) for p in picks]])
+
+
+def shown(first, *calls):
+    """A list with a show after its start and after each call."""
+    return lines(first, "show", *[text for call in calls for text in (call, "show")])
+
+
+def amid(record):
+    """A record with a slot before it and one after it, which shows whether the list goes on."""
+    return b"2,1,7,8\r\nslot,1,1\r\n" + record + b"\r\nslot,1,1\r\n"
+
+
+ONE, TWO = "2,1,7", "2,1,7,8"
+# 64 stations, their places in a square of eight by eight: those of a column pick alike in the one, those of a row in the other
+MANY = [911 - 13 * k for k in range(64)]
+BY_COLUMN = slot(k % 8 + 1 for k in range(64))
+BY_ROW = slot(k // 8 + 1 for k in range(64))
+
+
+def settled(bytes):
+    """64 stations that all ask at once: eight collisions of eight, each resolved in one slot."""
+    return lines(start(8, 1, MANY), *["offer,%d,%d" % (index, bytes) for index in MANY], BY_COLUMN, "show", BY_ROW, "show", *[BY_ROW] * 8, "show", BY_ROW, "show")
+
+
+def driven(stations, m, n, slots):
+    """Offers, bad calls and slots by an arithmetic rule: first seldom an offer, then more of them, then many. A show now and then, before a slot or after it."""
+    indexes = [(331 * k + n) % 924 for k in range(stations)]
+    calls = [start(m, n, indexes)]
+    apart = 24
+    for s in range(slots):
+        rarity = [8 * stations, 2 * stations, min(stations, 8)][s // 24 % 3]
+        for k in range(stations):
+            if draw(s, k, ARRIVES, rarity) == 0:
+                most = [48, 48, 48, 48, 48, 48, 96, 480][draw(s, k, KIND, 8)]
+                calls.append("offer,%d,%d" % (indexes[k], 1 + draw(s, k, SIZE, most)))
+        picks = [1 + draw(s, k, PICK, m) for k in range(stations + 1)]
+        if draw(s, n, BAD, 6) == 0:
+            k = draw(s, n, KIND, stations)
+            kind = draw(s, n, BAD_KIND, 7)
+            calls.append([
+                "offer,923,1", "offer,%d,0" % indexes[k], "offer,%d,12241" % indexes[k], slot(picks), slot(picks[:-2]),
+                slot(picks[:k] + [0] + picks[k + 1:-1]), slot(picks[:k] + [m + 1] + picks[k + 1:-1]),
+            ][kind])
+        if s % apart == 0:
+            calls.append("show")
+        calls.append(slot(picks[:-1]))
+        if s % apart == apart // 2:
+            calls.append("show")
+    return lines(*calls)
+
+
+def long(stations, slots, shows=0):
+    """A busy channel: eight offers after every 24th slot, one of them long; the picks of 251 rows in turn. A show every so many slots, if at all."""
+    indexes = list(range(stations))
+    rows = [slot(1 + draw(s, k, PICK, 8) for k in indexes) for s in range(251)]
+    offers = 0
+    yield start(8, 3, indexes)
+    for s in range(slots):
+        yield rows[s % 251]
+        for _ in range(8 if s % 24 == 23 else 0):
+            yield "offer,%d,%d" % (offers * 5 % stations, 480 if offers % 8 == 0 else 1 + offers % 48)
+            offers += 1
+        if shows and s % shows == 0:
+            yield "show"
+
+
+# ---- the lists
+
+def walks():
+    """Each condition and each turn, most with a show after every call."""
+    yield "example", lines(
+        "2,1,7,8,9", "offer,7,48", "slot,1,1,1", "offer,8,20", "offer,9,97", "offer,7,1", "slot,1,2,2", "slot,1,1,2", "show",
+        "slot,1,1,1", "slot,1,1,1", "slot,1,1,1", "slot,1,1,1")
+    # the recording of the paper's example, as four stations send it
+    yield "example_of_follow", lines(
+        "2,1,0,1,2,3", "offer,0,48", "offer,1,144", "slot,1,2,1,1", "offer,2,1", "offer,3,96", "slot,1,1,1,1", "slot,1,1,1,2", "slot,1,1,1,1", "slot,1,1,1,1")
+    yield "three_stations_in_two_groups", lines(
+        "2,2,7,9,923", "offer,7,48", "slot,1,1,1", "slot,1,1,1", "slot,1,1,1",
+        "offer,7,1", "offer,9,100", "slot,1,1,1", "slot,1,1,1", "slot,1,2,1", "slot,1,1,1", "slot,1,1,1",
+        "offer,923,1", "slot,1,1,1", "slot,1,1,1", "slot,1,1,1", "slot,1,1,1",
+        "offer,7,48", "offer,9,48", "offer,923,48", "slot,1,1,2", "slot,1,1,1", "slot,1,2,1", "slot,1,1,1", "slot,1,1,1", "slot,1,1,1", "slot,1,1,1",
+        "offer,7,12240", "offer,7,1", "offer,8,1", "offer,9,0", "offer,9,12241", "slot,1,1", "slot,1,3,1", "slot,0,1,1")
+    yield "immediate_success", shown(ONE, "offer,7,48", "slot,2", "slot,1", "offer,7,1", "slot,1", "offer,7,2", "slot,1", "offer,7,2", "slot,1")
+    yield "no_success_after_a_long_turn", shown(TWO, "offer,7,96", "slot,1,1", "slot,1,1", "offer,8,1", "slot,1,2", "slot,1,1", "slot,1,1")
+    yield "two_singles", shown(TWO, "offer,7,1", "offer,8,48", "slot,2,1", "slot,1,1", "slot,1,1", "slot,1,1")
+    yield "a_single_beside_a_longer_one", shown(TWO, "offer,7,1", "offer,8,49", "slot,1,2", "slot,1,1", "slot,1,1", "slot,1,1", "slot,1,1")
+    yield "a_collide_beside_a_single", shown("2,1,7,8,9", "offer,7,1", "offer,8,1", "offer,9,1", "slot,1,1,2", "slot,2,1,1", "slot,1,1,1", "slot,1,1,1", "slot,1,1,1")
+    yield "collision", shown(TWO, "offer,7,48", "offer,8,20", "slot,1,1", "slot,1,2", "slot,1,1", "slot,1,1", "slot,1,1")
+    yield "collision_of_long_ones", shown(TWO, "offer,7,49", "offer,8,240", "slot,2,2", "slot,2,1", "slot,1,1", "slot,1,1", "slot,1,1")
+    yield "the_same_collision_again", shown(TWO, "offer,7,48", "offer,8,97", *["slot,2,2"] * 3, "slot,1,2", "slot,1,1", "slot,1,1")
+    yield "two_collisions", shown(
+        "2,1,7,8,9,10,11", *["offer,%d,1" % i for i in range(7, 12)], "slot,1,2,1,2,2", "slot,1,1,2,1,1", "slot,1,1,1,2,2", "slot,1,1,1,1,2", *["slot,1,1,1,1,1"] * 5)
+    yield "a_fresh_message_waits_for_the_resolution", shown(
+        "2,1,7,8,9", "offer,7,1", "offer,8,1", "slot,1,1,1", "offer,9,1", "slot,1,2,1", "slot,1,1,1", "slot,1,1,2", "slot,1,1,1", "slot,1,1,1")
+    yield "places_of_one_resolution_queue", shown(
+        "3,1,0,1,2,3,4,5,6", *["offer,%d,%d" % (i, 1 + 20 * i) for i in range(7)], "slot,1,1,2,2,3,3,3", "slot,2,2,1,1,1,1,1", "slot,1,2,3,3,1,2,3", "slot,1,2,3,1,1,2,3",
+        *["slot,1,2,3,1,1,2,3"] * 8)
+    yield "a_long_message", shown(ONE, "offer,7,97", *["slot,1"] * 5)
+    yield "a_long_message_in_three_groups", shown("2,3,7", "offer,7,145", *["slot,2"] * 9)
+    yield "two_long_messages", shown(TWO, "offer,7,97", "offer,8,145", "slot,2,1", *["slot,1,1"] * 8)
+    yield "an_urgent_one_before_a_long_one", shown("2,1,7,8,9", "offer,7,240", "slot,1,1,1", "offer,8,1", "slot,1,1,1", "offer,9,48", *["slot,1,1,1"] * 7)
+    yield "three_urgent_ones", shown("3,1,7,8,9", "offer,7,1", "offer,8,1", "offer,9,1", "slot,3,1,2", *["slot,1,1,1"] * 4)
+    yield "asked_in_two_groups", shown("2,2,7,8", "offer,7,1", "slot,1,1", "offer,8,49", "slot,2,2", "slot,1,1", "slot,1,1", "slot,1,1", "slot,1,1")
+    yield "resolving_in_two_groups", shown(
+        "2,2,7,8,9,10", "offer,7,1", "offer,8,1", "slot,1,1,1,1", "offer,9,60", "offer,10,1", "slot,1,1,2,2", "slot,2,2,1,1", "slot,1,1,1,2", "slot,1,2,1,1",
+        *["slot,1,1,1,1"] * 6)
+    yield "the_longest_message", lines("2,8,923", "offer,923,12240", *["slot,1"] * 100, "show", *["slot,1"] * 163, "show", "slot,1", "show", "slot,1", "show")
+    yield "one_station_in_eight_groups", shown("8,8,462", "offer,462,48", "slot,8", *["slot,1"] * 9)
+    yield "seven_stations_in_three_groups", shown(
+        "8,3,6,5,4,3,2,1,0", *["offer,%d,%d" % (i, 48 + i % 3) for i in range(7)], *["slot,8,8,7,7,6,6,5", "slot,1,2,1,2,1,2,1"] * 7)
+    yield "sixty_four_urgent", settled(48)
+    yield "sixty_four_of_the_longest", settled(12240)
+    yield "sixty_four_in_eight_groups", lines(
+        start(8, 8, MANY), "show", *["offer,%d,%d" % (index, 1 + 97 * k) for k, index in enumerate(MANY[:16])], BY_ROW, *["offer,%d,1" % index for index in MANY[16:40]],
+        BY_ROW, BY_COLUMN, *["offer,%d,255" % index for index in MANY[40:]], BY_COLUMN, "show", *[BY_ROW, BY_COLUMN] * 12, "show")
+
+
+def starts():
+    """What a start answers, and in which order it is checked."""
+    yield "only_the_start", lines(ONE)
+    yield "only_the_start_without_cr_lf", b"8,8,923,0"
+    yield "last_cr_lf_missing", b"2,1,7\r\noffer,7,1\r\nslot,1"
+    yield "last_show_without_cr_lf", b"2,1,7\r\noffer,7,1\r\nslot,1\r\nshow"
+    yield "leading_zeros", lines("00002,001,00007,0008", "offer,00007,00048", "slot,00001,02", "offer,08,00097", "slot,1,1", "show")
+    for name, m, n in (("m_0", 0, 1), ("m_1", 1, 1), ("m_9", 9, 1), ("m_255", 255, 1), ("n_0", 2, 0), ("n_9", 2, 9), ("n_255", 2, 255)):
+        yield "number_5_of_" + name, lines(start(m, n, [7]), "slot,1")
+    yield "number_14_of_no_station", lines("2,1", "slot")
+    yield "number_14_of_65_stations", lines(start(2, 1, range(65)), "show")
+    yield "number_14_of_254_indexes", lines("8,8," + ",".join("1" * 253) + ",10", "show")
+    yield "number_8_of_924", lines("2,1,923,924,7", "slot,1,1,1")
+    yield "number_8_of_65535", lines("2,1,65535", "slot,1")
+    yield "number_15", lines("2,1,7,8,9,7", "slot,1,1,1,1")
+    yield "number_15_of_the_last_two", lines("8,8,7,923,923", "show")
+    yield "five_before_fourteen_of_none", lines("9,1")
+    yield "five_before_fourteen_of_65", lines(start(1, 1, range(65)))
+    yield "five_before_eight_and_fifteen", lines("2,9,924,924")
+    yield "fourteen_before_eight", lines(start(2, 1, range(900, 965)))
+    yield "fourteen_before_fifteen", lines(start(2, 1, [7] * 65))
+    yield "eight_before_fifteen", lines("2,1,7,7,924")
+    yield "nineteen_before_five", lines("1,0,65536")
+    yield "nineteen_before_fourteen", lines(start(2, 1, [*range(64), 65536]))
+    yield "nineteen_before_eight", lines("2,1,924,7,65536")
+    yield "nineteen_before_fifteen", lines("2,1,7,7,65543")
+    for name, first in (
+        ("m_256", "256,1,7"), ("m_258", "258,1,7"), ("n_256", "2,256,7"), ("n_257", "2,257,7"), ("m_99999", "99999,1,7"), ("n_99999", "2,99999,7"),
+        ("index_65536", "2,1,65536"), ("index_65543", "2,1,65543"), ("index_99999", "2,1,7,99999"),
+    ):
+        yield "start_of_" + name, lines(first, "slot,1")
+
+
+def refusals():
+    """What offers and slots answer, and in which order they are checked. A refused call alters nothing, and the list goes on."""
+    yield "number_16", lines(TWO, "offer,6,1", "offer,9,1", "offer,923,1", "offer,924,1", "offer,65535,1", "offer,0,1", "offer,8,1", "show")
+    yield "sixteen_before_ten", lines(TWO, "offer,7,1", "offer,9,0", "offer,9,12241", "offer,9,99999")
+    yield "number_9", lines(
+        "2,1,7,8,9,10", "offer,7,1", "offer,7,1", "offer,8,1", "slot,1,1,1,1", "offer,7,1", "offer,8,48", "slot,1,1,1,1", "slot,1,2,1,1", "offer,7,1", "offer,9,97",
+        "slot,1,1,1,1", "offer,7,1", "offer,8,1", "slot,1,1,1,1", "offer,8,1", "slot,1,1,1,1", "offer,9,1", "slot,1,1,1,1", "offer,9,1", "slot,1,1,1,1", "offer,9,1", "show")
+    yield "number_9_while_resolving", shown(
+        "2,1,7,8,9,10", *["offer,%d,1" % i for i in (7, 8, 9, 10)], "slot,1,1,2,2", "slot,1,2,1,1", "offer,9,1", "offer,10,0", "slot,1,1,1,2", "offer,10,1")
+    yield "nine_before_ten", lines(TWO, "offer,7,1", "offer,7,0", "offer,7,12241", "offer,8,0", "show")
+    yield "number_10", lines(TWO, "offer,7,0", "offer,7,00000", "offer,7,12241", "offer,7,65535", "offer,7,65536", "offer,7,65584", "offer,7,99999", "show", "offer,7,12240", "show")
+    yield "slot_totals", lines(start(2, 1, range(8)), *["offer,%d,%d" % (k, bytes) for k, bytes in enumerate((1, 47, 48, 49, 96, 97, 12192, 12193))], "show")
+    yield "number_17", lines(TWO, "slot", "slot,1", "slot,1,1,1", slot([1] * 64), slot([1] * 65), slot([2] * 254), "show", "slot,1,1")
+    yield "number_17_of_64_stations", lines(start(8, 8, MANY), slot([8] * 63), slot([8] * 65), slot([8] * 64), "slot", slot([1] * 128))
+    yield "number_11", lines(TWO, "slot,0,1", "slot,1,0", "slot,3,1", "slot,1,3", "slot,255,1", "slot,1,255", "show", "slot,2,2")
+    yield "number_11_of_the_last_pick", lines(start(8, 3, MANY), slot([8] * 63 + [9]), slot([8] * 63 + [0]), slot([8] * 64))
+    yield "number_11_of_unused_picks", shown("3,1,7,8", "offer,7,1", "slot,3,4", "slot,3,0", "slot,3,3", "slot,4,1", "slot,1,1")
+    yield "seventeen_before_eleven", lines(TWO, "slot,0", "slot,1,3,1", "slot,0,0,0", "slot,255", "slot,3,3")
+    yield "refused_calls_between", shown(
+        TWO, "offer,7,1", "offer,7,1", "slot,1,0", "slot,1,1", "slot,1", "offer,7,48", "slot,1,1", "offer,9,1", "offer,8,97", "offer,7,12241", "offer,7,1", "slot,2,2,2", "slot,2,2",
+        "slot,2,3", "slot,2,1", "offer,8,0", "slot,1,1", "slot,255,255", "slot,1,1", "slot", "slot,1,1", "slot,1,1")
+    for name, record in (
+        ("offer_of_index_65536", "offer,65536,1"), ("offer_of_index_65543", "offer,65543,1"), ("offer_of_index_99999", "offer,99999,0"),
+        ("nineteen_before_ten", "offer,65536,0"), ("pick_256", "slot,1,256"), ("pick_257", "slot,257,1"), ("pick_99999", "slot,1,99999"),
+        ("nineteen_before_seventeen", "slot,1,1,256"), ("nineteen_before_eleven", "slot,0,256"), ("nineteen_of_fewer_picks", "slot,300"),
+    ):
+        yield name, lines(TWO, "offer,7,1", record, "show")
+
+
+def broken():
+    """Records that are no start or no call, each of which ends the output; and, beside those that are too long, some of just the most bytes."""
+    yield "empty_input", b""
+    yield "cr_lf_alone", b"\r\n"
+    yield "first_record_missing", lines("", "2,1,7", "slot,1")
+    yield "first_is_a_call", lines("offer,7,1", "2,1,7", "slot,1")
+    yield "first_is_show", lines("show")
+    yield "first_of_one_field", lines("2", "slot,1")
+    yield "first_with_a_comma_last", lines("2,1,7,", "slot,1")
+    yield "first_with_a_comma_last_and_no_index", lines("2,1,", "slot,1")
+    yield "first_with_a_comma_first", lines(",2,1,7", "slot,1")
+    yield "first_with_a_word", lines("start,2,1,7", "slot,1")
+    yield "first_with_a_space", lines("2,1, 7", "slot,1")
+    yield "first_with_a_sign", lines("2,1,-7", "slot,1")
+    yield "first_with_six_digits", lines("2,1,000007", "slot,1")
+    yield "first_with_a_lone_lf", b"2,1,7\nslot,1\n"
+    yield "first_with_a_lone_cr", b"2,1,7\rslot,1\r\n"
+    yield "first_lf", b"\n2,1,7\r\nslot,1\r\n"
+    yield "first_cr_cr_lf", b"2,1,7\r\r\nslot,1\r\n"
+    yield "first_cr_at_the_end", b"2,1,7\r"
+    yield "first_of_512_bytes", b"2,1," + zeros(508) + b"\r\nshow\r\n"
+    yield "first_of_513_bytes", b"2,1," + zeros(509) + b"\r\nshow\r\n"
+    yield "first_of_512_bytes_at_the_end", b"2,1," + zeros(508)
+    yield "first_of_513_bytes_at_the_end", b"2,1," + zeros(509)
+    yield "record_of_512_bytes", amid(b"slot," + zeros(507))
+    yield "record_of_513_bytes", amid(b"slot," + zeros(508))
+    yield "record_of_512_bytes_at_the_end", b"2,1,7\r\nslot," + zeros(507)
+    yield "record_of_513_bytes_at_the_end", b"2,1,7\r\nslot," + zeros(508)
+    yield "record_of_512_bytes_and_cr_at_the_end", b"2,1,7\r\nslot," + zeros(507) + b"\r"
+    yield "record_of_512_bytes_and_lf", b"2,1,7\r\nslot," + zeros(507) + b"\nshow\r\n"
+    yield "record_of_2000_bytes", amid(b"slot," + zeros(1995))
+    yield "empty_last_record", lines(ONE, "slot,1", "")
+    yield "lone_cr_at_the_end", b"2,1,7\r\nslot,1\r"
+    yield "a_cr_and_nothing_more", b"2,1,7\r\nslot,1\r\n\r"
+    yield "lone_lf_at_the_end", b"2,1,7\r\nslot,1\n"
+    for name, record in (
+        ("empty_record", b""), ("lone_cr", b"slot,1\r1"), ("lone_lf", b"slot,1,1\nslot,1,1"), ("lf_first", b"\nslot,1,1"), ("cr_first", b"\rslot,1,1"), ("cr_cr_lf", b"slot,1,1\r"),
+        ("comma_first", b",slot,1,1"), ("comma_last_of_a_slot", b"slot,1,1,"), ("comma_last_of_an_offer", b"offer,7,1,"), ("comma_alone", b","), ("two_commas", b"slot,1,,1"),
+        ("slot_with_a_comma", b"slot,"), ("show_with_a_comma", b"show,"), ("offer_with_a_comma", b"offer,"), ("show_with_a_field", b"show,1"), ("show_with_the_word_again", b"show,show"),
+        ("offer_alone", b"offer"), ("offer_of_one_number", b"offer,7"), ("offer_of_three_numbers", b"offer,7,1,1"), ("offer_without_an_index", b"offer,,1"),
+        ("space_in_a_number", b"slot,1, 1"), ("space_after_a_word", b"show "), ("space_before_a_word", b" show"), ("space_for_a_comma", b"slot 1,1"), ("tab", b"slot,1\t,1"),
+        ("plus", b"slot,+1,1"), ("minus", b"offer,-7,1"), ("quote_at_a_number", b'slot,"1",1'), ("quote_at_a_word", b'"show"'), ("point", b"offer,7,1.0"), ("semicolon", b"slot;1;1"),
+        ("nul_in_a_number", b"slot,1,\x001"), ("nul_after_a_word", b"show\x00"), ("high_byte_in_a_number", b"slot,1,1\xff"), ("high_byte_in_a_word", b"sh\xefw"),
+        ("letter_in_a_number", b"slot,1,a"), ("underscore_in_a_number", b"offer,7,1_0"), ("slash_and_colon", b"slot,/,:"), ("digit_of_another_script", "slot,1,\u0661".encode()),
+        ("six_digits", b"slot,1,000001"), ("six_digits_of_an_offer", b"offer,7,000048"), ("twenty_digits", b"slot,1,18446744073709551617"),
+        ("capitals", b"SHOW"), ("a_capital", b"Slot,1,1"), ("capital_of_an_offer", b"offeR,7,1"), ("unknown_word", b"stop"), ("word_too_short", b"slo,1,1"), ("word_too_long", b"slots,1,1"),
+        ("offers", b"offers,7,1"), ("shows", b"shows"), ("word_too_short_of_an_offer", b"offe,7,1"), ("word_too_short_of_show", b"sho"), ("no_word", b"1,1"), ("start_again", b"2,1,7,8"),
+        ("number_before_the_word", b"1,show"),
+    ):
+        yield name, amid(record)
+
+
+def drives():
+    """Some hundred calls each, all that can come among them."""
+    for stations, m, n, slots in (
+        (1, 2, 1, 432), (1, 3, 3, 432), (1, 8, 8, 432), (2, 2, 1, 432), (2, 3, 3, 432), (2, 8, 8, 432),
+        (7, 3, 1, 432), (7, 2, 3, 432), (7, 5, 8, 432), (64, 3, 1, 216), (64, 8, 3, 216), (64, 2, 8, 216),
+    ):
+        yield "driven_stations_%d_groups_%d" % (stations, n), driven(stations, m, n, slots)
+
+
+def cases():
+    for part in (walks, starts, refusals, broken, drives):
+        yield from part()
+
+
+def larger():
+    """More than a buffer of input, and more than one of output."""
+    yield "long_input", lines(*long(64, 3000))
+    yield "long_output", lines(*long(64, 900, 4))
+    yield "many_calls", lines(*long(2, 15000))
+
+
+if __name__ == "__main__":
+    if len(sys.argv) == 4 and sys.argv[1] == "long":
+        for text in long(int(sys.argv[2]), int(sys.argv[3])):
+            sys.stdout.buffer.write(lines(text))
+    else:
+        sys.exit(command(sys.argv, list(cases()), rehearse, larger()))
