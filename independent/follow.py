@@ -21,8 +21,6 @@ def minislot(word, count):
     if word >> 12:
         raise Refusal(1)
     ones = bin(word).count("1")
-    if 1 <= ones <= 5:
-        raise Refusal(2)
     if ones == 6 and count == 0:
         raise Refusal(3)
     if ones == 0 and count > 0:
@@ -153,16 +151,20 @@ def cases():
     yield "a_minislot_too_many", lines("2,1", "0,0,0,0,0,0")
     yield "six_before_one", lines("2,1", "4096,0,0")
     yield "number_1", lines("2,1", "4096,0,0,0")
-    yield "number_2", lines("2,1", "62,1,0,0")
-    yield "number_2_in_the_second", lines("2,1", "63,1,31,0")
+    yield "click", lines("2,1", "62,1,0,0")
+    yield "click_in_the_second", lines("2,1", "63,1,31,0")
+    yield "click_before_a_bad_minislot", lines("2,1", "1,0,63,0")
+    yield "clicked_request", lines("2,1", "0,0,0,0", "127,1,0,0", "0,0,63,1", "0,0,0,0")
+    yield "clicks_in_three_groups", lines("2,3", *(["1,0,2048,255", "0,0,31,7", "62,0,63,1", "0,0,0,0", "95,3,15,0", "0,0,0,0"] * 4))
     yield "number_3", lines("2,1", "63,0,0,0")
     yield "number_4", lines("2,1", "0,1,0,0")
     yield "first_bad_minislot_counts", lines("2,1", "0,1,4096,0")
-    yield "after_a_refusal", lines("2,1", "62,1,0,0", "0,0,0,0")
+    yield "after_a_refusal", lines("2,1", "4096,1,0,0", "0,0,0,0")
     yield "last_cr_lf_missing", b"2,1\r\n63,1,95,3\r\n0,0,0,0"
     yield "only_the_first", b"8,8"
     yield "number_7", lines("8,1", *(["63,255," * 7 + "63,255"] * 40))
     yield "number_7_of_collisions", lines("8,2", *(["127,0," * 7 + "4095,0"] * 1200))
+    yield "number_7_of_clicks", lines("8,1", *(["1,0," * 7 + "31,255"] * 600))
     yield "number_7_of_singles", lines("8,1", *(["63,1," * 7 + "63,1"] * 600))
     yield "three_groups", resolution()
 

@@ -53,8 +53,6 @@ def read(word, count):
     if word >> 12:
         raise Refusal(1)
     ones = bin(word).count('1')
-    if 1 <= ones <= 5:
-        raise Refusal(2)
     if ones == 6:
         if count == 0:
             raise Refusal(3)
@@ -181,7 +179,7 @@ def arrays(n, rq, is_open):
 
 def good_row(record):
     case(record, [63, 95], [1, 3])
-    case_at(record, [62, 63, 95, 4096], [1, 1, 3, 0], 1)
+    case_at(record, [63, 63, 95, 4096], [0, 1, 3, 0], 1)
 
 
 def main():
@@ -232,10 +230,10 @@ def main():
     shut(8, 8)
 
     # the order of checking
-    case(plain(1, 1, 1, 0, 0), [62], [1])
-    case(plain(2, 1, 2, 0, 0), [62, 0, 0], [1])
-    case(plain(3, 1, 1, 4095, 0), [62, 0], [1, 1])
-    for words in ([62, 127, 63], [63, 127, 62], [63, 127, 63]):
+    case(plain(1, 1, 1, 0, 0), [4096], [1])
+    case(plain(2, 1, 2, 0, 0), [4096, 0, 0], [1])
+    case(plain(3, 1, 1, 4095, 0), [4096, 0], [1, 1])
+    for words in ([4096, 127, 63], [63, 127, 4096], [63, 127, 63], [62, 127, 63], [63, 127, 62]):
         case(plain(3, 1, 1, 4095, 0), words, [1, 0, 1])
 
     # 6
@@ -249,12 +247,18 @@ def main():
     case_at(record, words[:3], counts, 1)
     case_at(record, words, counts, 2 ** 64 - 1)
 
-    # 1 to 4
+    # 1, 3 and 4
     for words, counts in (([4096, 62, 63], [0, 1, 0]), ([63, 62, 4096], [1, 1, 0]), ([63, 63, 0], [1, 0, 1]), ([63, 127, 0], [1, 1, 1]), ([0, 4096, 0], [1, 0, 0])):
         case(record, words, counts)
-    for words, counts in (([62, 63, 95, 0, 4096], [1, 1, 3, 0, 0]), ([127, 63, 0, 0, 95], [1, 0, 0, 1, 1])):
+    for words, counts in (([63, 63, 95, 0, 4096], [0, 1, 3, 0, 0]), ([127, 63, 0, 0, 95], [1, 0, 0, 1, 1])):
         for place in (0, 1, 2):
             case_at(record, words, counts, place)
+
+    # clicks: each is a Collide, and a lone Single of 1 beside one is queued
+    for words, counts in (([62, 0, 0], [1, 0, 0]), ([63, 1, 0], [1, 0, 0]), ([31, 0, 2048], [255, 0, 0]), ([1, 3, 7], [0, 1, 255]), ([95, 15, 127], [3, 0, 0])):
+        case(plain(3, 1, 1, 0, 0), words, counts)
+    for place in (0, 1, 2):
+        case_at(plain(3, 1, 1, 0, 0), [62, 63, 31, 0, 95], [0, 1, 255, 0, 2], place)
 
     # 7, and what is just within: H, N, RQ
     def places(record, words, counts):
@@ -271,7 +275,7 @@ def main():
         case(plain(2, 1, 1, h, long), words, counts)
     places(plain(2, 1, 1, 0, 65535), [63, 0], [2, 0])
     for r1, r2, words, counts in ((4095, 0, [0, 0], [0, 0]), (4095, 0, [63, 0], [1, 0]), (4095, 0, [127, 0], [0, 0]), (4094, 0, [127, 0], [0, 0]),
-                                  (4094, 0, [127, 4095], [0, 0]), (0, 4095, [127, 4095], [0, 0])):
+                                  (4094, 0, [127, 4095], [0, 0]), (0, 4095, [127, 4095], [0, 0]), (4095, 0, [1, 0], [0, 0]), (4094, 0, [1, 0], [0, 0])):
         record = arrays(2, [r1, r2] + [0] * 6, [True] * 8)
         case(record, words, counts)
         places(record, words, counts)

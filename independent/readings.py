@@ -1,8 +1,9 @@
 #!/usr/bin/env python3
 """What crates/readings_run must write, made from the paper's sentences and not from the Rattle programs.
 
-Reading: no ones is Empty; six ones is Single, which carries the pattern's index and the count; seven to twelve ones is
-Collide, count ignored. 1: a one above bit 11. 2: one to five ones. 3: Single with count 0. 4: Empty with count above 0.
+Reading: no ones is Empty; six ones is Single, which carries the pattern's index and the count; any other number of ones,
+clicks of one to five among them, is Collide, count ignored. 1: a one above bit 11. 3: Single with count 0. 4: Empty with
+count above 0. 2 is retired, and the digests count that none come.
 A row is m minislots, m from 2 to 8; 6: it has not m minislots; then the first bad minislot's number. Weight = number of
 Singles plus twice the number of Collides. An answer has eight places, Empty where nothing is heard.
 """
@@ -24,8 +25,6 @@ def read(word, count):
     """The number of the refusal, or the feedback."""
     if any(word & (1 << bit) for bit in range(12, 16)):
         return 1
-    if 1 <= ones(word) <= 5:
-        return 2
     if ones(word) == 6:
         return ("single", INDEX[word], count) if count else 3
     if ones(word) == 0:
@@ -70,12 +69,16 @@ def row_at(words, counts, start, m):
 
 def minislots():
     for word, count in (
-        (62, 1), (63, 1), (127, 9), (4032, 255), (4096, 0), (63, 0), (0, 1),
-        (0, 0), (0, 255), (1, 0), (2048, 255), (31, 3), (3968, 0), (95, 255), (1365, 12), (2730, 128),
+        (62, 1), (62, 0), (1, 0), (31, 255), (63, 1), (127, 9), (4032, 255), (4096, 0), (63, 0), (0, 1),
+        (0, 0), (0, 255), (2048, 255), (31, 3), (3968, 0), (95, 255), (1365, 12), (2730, 128),
         (4032, 0), (4032, 1), (127, 0), (4064, 255), (4095, 0), (4095, 255), (4096, 1), (4159, 1), (8128, 7),
         (32768, 0), (65535, 255),
     ):
         yield f"minislot,{word},{count} {text(read(word, count))}"
+    for many in range(13):
+        for word in sorted({2**many - 1, 4096 - 2 ** (12 - many)}):
+            for count in (0, 1, 255):
+                yield f"minislot,{word},{count} {text(read(word, count))}"
 
 
 def digests():
@@ -99,6 +102,10 @@ HEARD = (
     ([0, 4032, 0], [0, 255, 0], 3),
     ([63, 0, 127, 4032, 4095, 1365, 0, 2730], [1, 0, 0, 255, 6, 2, 0, 17], 8),
     ([4095] * 8, [0, 1, 2, 4, 8, 16, 32, 64], 8),
+    ([62, 0], [1, 0], 2),
+    ([63, 31], [1, 255], 2),
+    ([1, 3, 7], [0, 1, 255], 3),
+    ([1, 63, 2080, 0, 15, 127, 31, 2730], [0, 1, 255, 0, 7, 0, 1, 17], 8),
 )
 WRONG_LENGTH = (
     ([63], [1], 2),
@@ -137,8 +144,8 @@ STARTS = (
 
 
 def recordings():
-    words = [62, 63, 127, 0, 95, 4032, 4095, 0, 2730, 4096]
-    counts = [1, 1, 9, 0, 3, 255, 0, 0, 17, 0]
+    words = [63, 63, 127, 0, 95, 4032, 4095, 62, 2730, 4096]
+    counts = [0, 1, 9, 0, 3, 255, 0, 0, 17, 0]
     for start, m in STARTS:
         yield row_at(words, counts, start, m)
     for start, m in ((3, 3), (4, 3), (7, 2)):

@@ -6,6 +6,8 @@ box's place is what its queue has grown to when its own minislot has been passed
 """
 import sys
 
+import listener
+
 WORDS = [w for w in range(4096) if format(w, "b").count("1") == 6]
 PLACES = {w: i for i, w in enumerate(WORDS)}
 LIMIT = {"H": 4095, "N": 65535, "RQ": 4095}
@@ -65,8 +67,6 @@ def read(word, count):
     number = format(word, "b").count("1")
     if word > 4095:
         raise Refusal(1)
-    if 0 < number < 6:
-        raise Refusal(2)
     if number == 6:
         if count == 0:
             raise Refusal(3)
@@ -235,15 +235,39 @@ def slotted(box, row, pick):
     return gone(box, row, pick)
 
 
-RECORDING = [(0, 0), (0, 0), (63, 1), (95, 3), (127, 1), (0, 0), (63, 0)]
-
-
-def slot_at(box, place, pick):
+def slot_at(box, recording, place, pick):
     put("slot_at", place, pick)
-    return gone(box, RECORDING[place:place + box["m"]], pick)
+    return gone(box, recording[place:place + box["m"]], pick)
+
+
+def put_counters(ear):
+    put("counters", ear.m, ear.n, ear.group, ear.h, ear.long, *ear.rq.values(), *["yes" if o else "no" for o in ear.open.values()])
+
+
+def listening(m, n):
+    """A listener starts."""
+    put("listener", m, n)
+    put("ready")
+    ear = listener.start(m, n)
+    put_counters(ear)
+    return ear
+
+
+def beside(box, ear, recording, place, pick):
+    """The box's slot, and then the listener on the same row of the recording."""
+    put("beside", place, pick)
+    row = recording[place:place + box["m"]]
+    box = gone(box, row, pick)
+    try:
+        put("went", {"u": "urgent", "l": "long", "r": "resolve", "o": "open"}[listener.listen(ear, [w for w, _ in row], [c for _, c in row])])
+    except listener.Refusal as r:
+        put("refused", r.number)
+    put_counters(ear)
+    return box
 
 
 EMPTY = (0, 0)
+
 
 def starts():
     begin(2, 1, 0)
@@ -288,13 +312,13 @@ def outside_limits():
 
 
 def rows_refused():
-    """6, 11 and 1 to 4, each also where a later one would come."""
+    """6, 11, and 1, 3 and 4, each also where a later one would come."""
     box = begin(2, 1, 0)
-    slotted(box, [(1, 0)], 0)
+    slotted(box, [(4096, 0)], 0)
     slotted(box, [EMPTY, EMPTY, EMPTY], 1)
     slotted(box, [EMPTY, EMPTY], 0)
-    slotted(box, [(1, 0), EMPTY], 3)
-    slotted(box, [(4096, 0), (1, 0)], 1)
+    slotted(box, [(4096, 0), EMPTY], 3)
+    slotted(box, [(4096, 0), (95, 0)], 1)
     slotted(box, [(31, 1), (4096, 0)], 1)
     slotted(box, [(95, 0), EMPTY], 2)
     slotted(box, [EMPTY, (0, 1)], 2)
@@ -321,7 +345,11 @@ def own_hearing():
     for row in ([EMPTY, EMPTY], [EMPTY, (95, 3)], [EMPTY, (63, 2)], [EMPTY, (4032, 3)], [EMPTY, (223, 0)], [EMPTY, (4064, 1)],
                 [EMPTY, (254, 3)], [(63, 3), (63, 3)], [(63, 3), EMPTY], [EMPTY, (63, 3)], [EMPTY, (127, 255)], [(95, 1), (63, 3)]):
         slotted(given(*asked), row, 1)
-    for row in ([EMPTY, EMPTY], [(63, 3), EMPTY], [EMPTY, (127, 0)]):
+    # clicks: too few ones, or none of them its own; over its word; and beside it
+    for row in ([EMPTY, (31, 3)], [EMPTY, (62, 0)], [EMPTY, (1, 255)], [EMPTY, (64, 3)], [EMPTY, (4095, 3)], [(31, 0), (63, 3)], [(62, 255), (2111, 0)],
+                [(1, 0), (31, 3)]):
+        slotted(given(*asked), row, 1)
+    for row in ([EMPTY, EMPTY], [(63, 3), EMPTY], [EMPTY, (127, 0)], [EMPTY, (31, 0)]):
         slotted(given(2, 2, 2, 0, 0, 0, 0, True, 0, ("asked", 1, 2, 3)), row, 1)
     for row in ([(63, 1), EMPTY], [(127, 1), (95, 1)]):
         slotted(begin(2, 1, 0), row, 1)
@@ -365,15 +393,24 @@ def second_in_line():
 
 
 def recordings():
-    box = slot_at(offered(begin(2, 1, 0), 10), 0, 1)
-    slot_at(box, 2, 1)
-    slot_at(box, 3, 1)
-    slot_at(box, 4, 2)
-    slot_at(box, 5, 1)
-    slot_at(box, 6, 1)
-    slot_at(box, 7, 1)
-    slot_at(box, 18446744073709551615, 1)
-    slot_at(box, 5, 3)
+    recording = [(0, 0), (0, 0), (63, 1), (95, 3), (127, 1), (0, 0), (63, 0)]
+    box = slot_at(offered(begin(2, 1, 0), 10), recording, 0, 1)
+    for place, pick in ((2, 1), (3, 1), (4, 2), (5, 1), (6, 1), (7, 1), (18446744073709551615, 1), (5, 3)):
+        slot_at(box, recording, place, pick)
+
+
+def lone_request_clicked():
+    """A lone request under a click: the box asks again, alone at its resolution place, and is queued when it is heard alone. A listener hears the same rows."""
+    for n, size, recording, picks in (
+        (1, 10, [EMPTY, EMPTY, (127, 1), EMPTY, EMPTY, (63, 1)], (1, 2, 1)),
+        (1, 100, [EMPTY, EMPTY, (319, 3), (31, 255), (63, 3), (1, 0)], (1, 1, 1)),
+        (1, 10, [EMPTY, EMPTY, (2111, 1), EMPTY, (127, 1), EMPTY, (63, 1), EMPTY], (1, 1, 1, 1)),
+        (2, 48, [EMPTY, EMPTY, EMPTY, (62, 0), (127, 1), EMPTY, EMPTY, EMPTY, (63, 1), EMPTY], (1, 1, 1, 1, 1)),
+    ):
+        box = offered(begin(2, n, 0), size)
+        ear = listening(2, n)
+        for k, pick in enumerate(picks):
+            box = beside(box, ear, recording, 2 * k, pick)
 
 
 def main():
@@ -388,6 +425,7 @@ def main():
     long_preempted()
     second_in_line()
     recordings()
+    lone_request_clicked()
 
 
 if __name__ == "__main__":

@@ -4,13 +4,13 @@
 use mathlib.Core.Path.{_≡_, refl, ap, _∙_, subst, sym}
 use mathlib.Core.Bool.{Bool, true, false, cond, _&&_, and-eq-true-iff}
 use mathlib.Core.List.{List, [], _∷_, _++_}
-use mathlib.Core.Logic.{_⊎_, inl, inr, ⊎-elim}
+use mathlib.Core.Logic.{inr, ⊎-elim}
 use Prim.Native.Nat.{ℕ, zero, suc, _+_, _-_, _*_, _≤_, _<_}
 use native.Mathlib.Omega.{arith}
 use lib.Dec.{eqb}
 use lib.ListN.{length, replicate}
 use lib.Seq.{getD-set-same, getD-set-other}
-use borrow.Author.Tests.{ne-eqb, eqb-true, eqb-false}
+use borrow.Author.Tests.{ne-eqb}
 use Rattle.pattern.specs.Patterns.{wordOf}
 use Rattle.pattern.proofs.Ones.{ones-of-zero}
 use Rattle.pattern.proofs.Patterns.{pattern-below, pattern-ones, index-of-word}
@@ -19,7 +19,7 @@ use Rattle.minislot.specs.declared.Feedback.the-variants.{Empty, Single, Collid
 use Rattle.minislot.specs.declared.Reading.the-variants.{Heard}
 use Rattle.minislot.specs.Reading.{readingOf}
 use Rattle.rows.specs.Row.{weightOf, weight}
-use Rattle.minislot.proofs.Readings.{reads-1, reads-2, reads-empty, reads-single, reads-collide}
+use Rattle.minislot.proofs.Readings.{reads-1, reads-click, reads-empty, reads-single, reads-collide}
 use Rattle.message.specs.declared.SlotTotal.the-variants.{Slots}
 use Rattle.message.specs.Message.{slotTotalOf}
 use Rattle.message.proofs.Totals.{fits, fits-none, fits-over, slots-least, taken, refused}
@@ -35,6 +35,7 @@ use Rattle.rules.specs.Listening.{listened, heardNumberOf, refusedListening, li
 use Rattle.edges.specs.Changes.{markOf}
 use Rattle.edges.specs.EdgesAny.{oneHeard, twoHeard, afterRows, goesThrough, allGoThrough, ResolveRound, JoinsUrgent, EdgesAny}
 use Rattle.rules.proofs.LimitLaws.{within-limits, arrays-lengths}
+use Rattle.edges.proofs.GroupRounds.{NextAfter, following-in, one-fewer, other}
 
 -- ---- readings and slot totals
 
@@ -111,30 +112,9 @@ module _ (c : Counters) (row : List Feedback) where
       go true e = cc
       go false e = cc
 
--- ---- the groups go round
-
--- group g is next after k slots more, where h is next: in this round or in the one after it
-abbrev NextAfter : ℕ → ℕ → ℕ → ℕ → Type 0
-NextAfter n g h k = (h + k ≡ g) ⊎ (h + k ≡ g + n)
+-- ---- the slots of the other groups, until a group is next again
 
 module _ (n g : ℕ) (low : 1 ≤ g) (high : g ≤ n) where
-  following-in : (h : ℕ) → h ≤ n → (1 ≤ following n h) × (following n h ≤ n)
-  following-in h hh = go (eqb h n) refl
-    where
-      go : (b : Bool) → eqb h n ≡ b → (1 ≤ cond b 1 (h + 1)) × (cond b 1 (h + 1) ≤ n)
-      go true e = omega arith
-      go false e = omega (arith, eqb-false h n e)
-
-  one-fewer : (h k : ℕ) → h ≤ n → NextAfter n g h (suc k) → NextAfter n g (following n h) k
-  one-fewer h k hh a = go (eqb h n) refl a
-    where
-      go : (b : Bool) → eqb h n ≡ b → NextAfter n g h (suc k) → NextAfter n g (cond b 1 (h + 1)) k
-      go true e a = let q = eqb-true h n e in inl (⊎-elim (λ x. absurd (omega arith)) (λ x. omega arith) a)
-      go false e a = ⊎-elim (λ x. inl (omega arith)) (λ x. inr (omega arith)) a
-
-  other : (h k : ℕ) → 1 ≤ h → suc k < n → NextAfter n g h (suc k) → g - 1 ≡ h - 1 → ⊥
-  other h k hl few a e = ⊎-elim (λ x. omega arith) (λ x. omega arith) a
-
   -- group g's mark is no, and one of the n groups is next
   record Marked (c : Counters) : Type 0 where
     groups : c .groups ≡ n
@@ -147,7 +127,7 @@ module _ (n g : ℕ) (low : 1 ≤ g) (high : g ≤ n) where
   after-slot c row e hh m =
       record {
         groups = e;
-        next = subst (λ (k : ℕ). (1 ≤ following k (c .next)) × (following k (c .next) ≤ n)) (sym e) (following-in (c .next) hh);
+        next = subst (λ (k : ℕ). (1 ≤ following k (c .next)) × (following k (c .next) ≤ n)) (sym e) (following-in n g low high (c .next) hh);
         mark = m;
       }
 
@@ -159,7 +139,7 @@ module _ (n g : ℕ) (low : 1 ≤ g) (high : g ≤ n) where
   next-fallen : (c : Counters) (row : List Feedback) (k : ℕ) → c .groups ≡ n → c .next ≤ n → NextAfter n g (c .next) (suc k)
       → NextAfter n g (fallen c (placesAfter c row) .next) k
   unfolding fallen
-  next-fallen c row k e hh a = subst (λ (j : ℕ). NextAfter n g (following j (c .next)) k) (sym e) (one-fewer (c .next) k hh a)
+  next-fallen c row k e hh a = subst (λ (j : ℕ). NextAfter n g (following j (c .next)) k) (sym e) (one-fewer n g low high (c .next) k hh a)
 
   -- the slots of the other groups, until g is next again
   others-pass : (others : List (List Feedback)) (c : Counters) → Marked c → length others < n → NextAfter n g (c .next) (length others)
@@ -168,7 +148,7 @@ module _ (n g : ℕ) (low : 1 ≤ g) (high : g ≤ n) where
   others-pass (row ∷ others) c M few a t =
       let b = and-eq-true-iff (goesThrough (listenOf c row .answer)) (allGoThrough (listenOf c row .counters) others) .0 t in
       let e = counters-after c row (b .0) in
-      let ne = other (c .next) (length others) (M .next .0) few a in
+      let ne = other n g low high (c .next) (length others) (M .next .0) few a in
       others-pass others (listenOf c row .counters)
       (subst Marked (sym e) (after-slot c row (M .groups) (M .next .1) (mark-stays c row ne ∙ M .mark)))
       (omega arith)
@@ -199,8 +179,8 @@ round c row others H =
     (next-fallen n g (w .next .0) (w .next .1) c row (length others) refl (w .next .1) (inr (omega (arith, H .all)))))
     (H .through)
 
--- where the mark is no
-shut : (c : Counters) (row : List Feedback) → openedOf c ≡ false → immediateOf c row ≡ false
+-- where the mark is no there is no immediate success
+pub shut : (c : Counters) (row : List Feedback) → openedOf c ≡ false → immediateOf c row ≡ false
 unfolding immediateOf
 shut c row m = rw m
 
@@ -214,7 +194,7 @@ pub edges-any : EdgesAny
 edges-any =
     record {
       above-bit-11 = λ word count h. reads-1 word count h;
-      one-to-five = λ word count small lo hi. reads-2 word count small lo (omega arith);
+      click = λ word count k. reads-click word count (k .twelve) (k .some) (omega (arith, k .few));
       seven-or-more = λ word count small h. reads-collide word count small h;
       pattern = pattern-reads;
       pattern-0 = λ i h. reads-single (wordOf i) 0 (pattern-below i h) (pattern-ones i h);

@@ -23,6 +23,9 @@ unfolding ones onesIn those sixOnes patterns placeOf indexOf readingOf readings 
 edges =
     record {
       word-62-1 = refl;
+      word-62-0 = refl;
+      word-1-0 = refl;
+      word-31-255 = refl;
       word-63-1 = refl;
       word-127-9 = refl;
       word-4032-255 = refl;

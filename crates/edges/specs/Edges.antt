@@ -51,8 +51,12 @@ abbrev pub line : ListenAnswer → ℕ → ℕ → ℕ → Line
 line a h n r = record { answer = a; urgent = h; long = n; resolution = r }
 
 pub record Edges : Type 0 where
-  -- word 62 count 1: 2. 63, 1: Single, index 0. 127, 9: Collide. 4032, 255: Single, index 923. 4096: 1. 63, 0: 3. 0, 1: 4.
-  pub word-62-1 : readingOf 62 1 ≡ Refused 2
+  -- word 62 count 1: Collide (paper 02, T-01), and so are other clicks, whatever their count. 63, 1: Single, index 0. 127, 9: Collide.
+  -- 4032, 255: Single, index 923. 4096: 1. 63, 0: 3. 0, 1: 4.
+  pub word-62-1 : readingOf 62 1 ≡ Heard Collide
+  pub word-62-0 : readingOf 62 0 ≡ Heard Collide
+  pub word-1-0 : readingOf 1 0 ≡ Heard Collide
+  pub word-31-255 : readingOf 31 255 ≡ Heard Collide
   pub word-63-1 : readingOf 63 1 ≡ Heard (Single 0 1)
   pub word-127-9 : readingOf 127 9 ≡ Heard Collide
   pub word-4032-255 : readingOf 4032 255 ≡ Heard (Single 923 255)

@@ -11,6 +11,7 @@ use Rattle.minislot.specs.declared.Feedback.{Feedback}
 use Rattle.minislot.specs.declared.Feedback.the-variants.{Empty, Single, Collide}
 use Rattle.minislot.specs.declared.Reading.the-variants.{Heard, Refused}
 use Rattle.minislot.specs.Reading.{readingOf}
+use Rattle.minislot.specs.Click.{Click}
 use Rattle.message.specs.declared.SlotTotal.the-variants.{Slots, Refused as RefusedMessage}
 use Rattle.message.specs.Message.{slotTotalOf}
 use Rattle.rules.specs.declared.Counters.{Counters}
@@ -61,9 +62,9 @@ pub record JoinsUrgent (c : Counters) (row : List Feedback) : Type 0 where
   pub urgent : placesAfter c row ≡ places (c .urgent + 1) (c .long) (resolutionOf c (c .next))
 
 pub record EdgesAny : Type 0 where
-  -- a one above bit 11: 1. One to five ones: 2. Seven or more: Collide. Whatever the count
+  -- a one above bit 11: 1. One to five ones, a click: Collide. Seven or more: Collide. Whatever the count
   pub above-bit-11 : (word count : ℕ) → 4096 ≤ word → readingOf word count ≡ Refused 1
-  pub one-to-five : (word count : ℕ) → word < 4096 → 1 ≤ ones word → ones word ≤ 5 → readingOf word count ≡ Refused 2
+  pub click : (word count : ℕ) → Click word → readingOf word count ≡ Heard Collide
   pub seven-or-more : (word count : ℕ) → word < 4096 → 7 ≤ ones word → readingOf word count ≡ Heard Collide
   -- each pattern's word: Single with its index and the count, 3 with count 0
   pub pattern : (i count : ℕ) → i < 924 → 1 ≤ count → readingOf (wordOf i) count ≡ Heard (Single i count)

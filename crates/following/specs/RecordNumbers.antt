@@ -1,5 +1,5 @@
 -- The numbers of a recording's records, in order of checking (paper 01, "`follow`": "In each record 19 comes before all others; then 5 in
--- the first, and in a row 6 for a wrong field count, then 1 to 4 and 7 as in listening"). Assumes nothing.
+-- the first, and in a row 6 for a wrong field count, then 1 to 4 and 7 as in listening"; 2 is retired by paper 02, T-01). Assumes nothing.
 use mathlib.Core.Bool.{Bool, cond, _&&_}
 use mathlib.Core.List.{List}
 use Prim.Native.Nat.{ℕ, _*_}
@@ -44,7 +44,7 @@ firstNumberOf bytes =
     unless (isFirst bytes) 19
     (startNumberOf (firstMinislots bytes) (firstGroups bytes))
 
--- A ROW: 19, 6, then 1 to 4 and 7 as in listening (whose 18 comes only of a follower that no start made)
+-- A ROW: 19, 6, then 1, 3 or 4 and 7 as in listening (whose 18 comes only of a follower that no start made)
 unfoldable pub rowNumberOf : Follower → List ℕ → ℕ
 rowNumberOf f bytes =
     unless (isRow bytes) 19

@@ -55,7 +55,8 @@ fn following(x: usize, p: usize) -> usize {
     (181 * (x % 2000) + 59) % p
 }
 
-// What a minislot of a number has: 0 to 63 a Single, 64 to 127 a Collide, 128 to 131 a refusal 2, 1, 3 and 4, and Empty from there on.
+// What a minislot of a number has: 0 to 63 a Single, 64 to 127 a Collide, 128 a click, 129 to 131 a refusal 1, 3 and 4, and Empty from
+// there on.
 fn minislot_of(x: usize) -> Minislot {
     let patterns: [u16; 8] = [63, 95, 111, 119, 1365, 2730, 3087, 4032];
     let collided: [u16; 4] = [127, 255, 2047, 4095];

@@ -44,7 +44,7 @@ fn listen_row(c: Counters, row: RowReading) -> Listened
     }
 }
 
-// Listens to a row. 18: the record is outside its limits. 6: the row has not m minislots. Then 1 to 4 for the first bad minislot. 7: a
+// Listens to a row. 18: the record is outside its limits. 6: the row has not m minislots. Then 1, 3 or 4 for the first bad minislot. 7: a
 // counter would pass its limit in step 1. A refusal leaves the record as it was.
 pub fn listen(c: Counters, words: &[u16], counts: &[u8]) -> Listened
     ensures { λ r. ⌜

@@ -1,1 +1,2 @@
+pub mod Click
 pub mod Reading

@@ -1,4 +1,5 @@
--- Reading a minislot (paper: "Reading"): by the number of ones of its word, and by its count. Assumes nothing.
+-- Reading a minislot (paper 01, "Reading"; paper 02, T-01, for clicks): by the number of ones of its word, and by its count. Assumes
+-- nothing.
 use mathlib.Core.Bool.{cond, not, _&&_}
 use mathlib.Core.List.{List, [], _∷_}
 use Prim.Native.Nat.{ℕ}
@@ -18,12 +19,12 @@ singleOf word count = cond (eqb count 0) (Refused 3) (Heard (Single (indexOf wor
 abbrev pub emptyOf : ℕ → Reading
 emptyOf count = cond (eqb count 0) (Heard Empty) (Refused 4)
 
--- 1: a one above bit 11; none: Empty; 2: one to five; six: Single; seven to twelve: Collide, count ignored
+-- 1: a one above bit 11; none: Empty; one to five, a click: Collide; six: Single; seven to twelve: Collide. A Collide's count is ignored
 unfoldable pub readingOf : ℕ → ℕ → Reading
 readingOf word count =
     cond (ltb 4095 word) (Refused 1)
     (cond (eqb (ones word) 0) (emptyOf count)
-    (cond (ltb (ones word) 6) (Refused 2)
+    (cond (ltb (ones word) 6) (Heard Collide)
     (cond (eqb (ones word) 6) (singleOf word count)
     (Heard Collide))))
 
@@ -35,17 +36,15 @@ readingAnswer (Refused n) = (n, [])
 abbrev pub numberOf : Reading → ℕ
 numberOf r = readingAnswer r .0
 
--- the number of a word and a count, in the paper's order. 1: a one above bit 11. 2: one to five ones. 3: Single with count 0. 4: Empty with
--- count above 0
+-- the number of a word and a count, in the paper's order. 1: a one above bit 11. 3: Single with count 0. 4: Empty with count above 0
 abbrev pub readingNumberOf : ℕ → ℕ → ℕ
 readingNumberOf word count =
     cond (ltb 4095 word) 1
-    (cond (not (eqb (ones word) 0) && ltb (ones word) 6) 2
     (cond (eqb (ones word) 6 && eqb count 0) 3
     (cond (eqb (ones word) 0 && not (eqb count 0)) 4
-    0)))
+    0))
 
--- what is heard where the number is 0: no ones Empty, six ones Single, more Collide
+-- what is heard where the number is 0: no ones Empty, six ones Single, any other number of them Collide
 abbrev pub heardOf : ℕ → ℕ → Feedback
 heardOf word count = cond (eqb (ones word) 0) Empty (cond (eqb (ones word) 6) (Single (indexOf word) count) Collide)
 

@@ -8,14 +8,15 @@ pub struct Minislot {
     pub count: u8,
 }
 
-// What a minislot reads as: no sender, one sender with its pattern's index and its count, or two senders or more.
+// What a minislot reads as: no sender; one sender, with its pattern's index and its count; or a collision. A Collide is two senders or
+// more, or a click on the line, which may stand over one sender or none.
 pub enum Feedback {
     Empty,
     Single(u16, u8),
     Collide,
 }
 
-// The answer to reading a minislot: its feedback, or the number of the refusal, 1 to 4.
+// The answer to reading a minislot: its feedback, or the number of the refusal: 1, 3 or 4.
 pub enum Reading {
     Heard(Feedback),
     Refused(u8),
@@ -27,14 +28,14 @@ pub struct MinislotFeedback {
 }
 
 // The answer to reading a row: number 0 with its weight and the feedback of its minislots, the rest of the array being Empty; or the
-// number of the refusal, 6 or 1 to 4, with weight 0 and nothing heard.
+// number of the refusal, 6, 1, 3 or 4, with weight 0 and nothing heard.
 pub struct RowReading {
     pub number: u8,
     pub weight: u8,
     pub minislots: [MinislotFeedback; 8],
 }
 
-// Reads a minislot. 1: a one above bit 11. 2: one to five ones. 3: Single with count 0. 4: Empty with count above 0.
+// Reads a minislot. 1: a one above bit 11. 3: Single with count 0. 4: Empty with count above 0. One to five ones are a click.
 pub fn read(word: u16, count: u8) -> Reading
     ensures { λ r. ⌜ (r ≡ readingOf word count) × (readingAnswer r ≡ readingAnswerOf word count) ⌝ }
 {
@@ -46,7 +47,7 @@ pub fn read(word: u16, count: u8) -> Reading
         return empty(count);
     }
     if ones < 6 {
-        return Reading::Refused(2);
+        return Reading::Heard(Feedback::Collide);
     }
     if ones == 6 {
         return single(word, count);

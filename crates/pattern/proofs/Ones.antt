@@ -6,7 +6,7 @@ use mathlib.Core.Bool.{true}
 use Prim.Native.Nat.{ℕ, zero, suc, _+_, _/_, _%_, _^_, _≤_, _<_, max}
 use native.Mathlib.Nat.{pow-suc}
 use native.Mathlib.Omega.{arith}
-use lib.Bits.{bitAnd, bitOr, and-step, or-step, or-comm, or-zero-l, and-zero-r, and-shr, and-mod, and-le-l}
+use lib.Bits.{bitAnd, bitOr, and-step, or-step, or-comm, or-zero-l, and-zero-r, and-shr, and-mod, and-le-l, or-add-and}
 use lib.Count.{ones, onesIn, ones-step}
 use borrow.Author.Tests.{eq-eqb, eqb-true}
 use Rattle.pattern.specs.Ones.{containsOnes}
@@ -108,3 +108,11 @@ contains-digit w v i h =
     let d : v / 2 ^ i % 2 ≡ bitAnd (w / 2 ^ i % 2) (v / 2 ^ i % 2) =
     ap (λ (x : ℕ). x / 2 ^ i % 2) (sym e) ∙ ap (λ (x : ℕ). x % 2) (and-shr w v i) ∙ and-mod (w / 2 ^ i) (v / 2 ^ i) 1 in
     omega (arith, d, and-le-l (w / 2 ^ i % 2) (v / 2 ^ i % 2))
+
+-- who contains a number's ones is not changed by an OR with it, and has at least as many
+pub contains-or : (w v : ℕ) → containsOnes w v ≡ true → bitOr w v ≡ w
+unfolding containsOnes
+contains-or w v h = omega (arith, eqb-true (bitAnd w v) v h, or-add-and w v)
+
+pub contains-ones : (k w v : ℕ) → v < 2 ^ k → containsOnes w v ≡ true → ones v ≤ ones w
+contains-ones k w v small h = omega (arith, or-at-least-right k w v small, ap ones (contains-or w v h))

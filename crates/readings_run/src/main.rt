@@ -60,7 +60,8 @@ fn reading_text(numbers: [u64; 3]) {
 
 // ---- a digest
 //
-// Its tally: Empty, Single, Collide, refusals 1 to 4, and the sums of the indexes and of the counts of Singles.
+// Its tally: Empty, Single, Collide, refusals 1 to 4 (of 2, which is retired, none), and the sums of the indexes and of the counts of
+// Singles.
 
 // Where a reading is counted.
 fn place_of(kind: u64, number: u64) -> usize

@@ -1,6 +1,6 @@
 -- What senders leave together in a minislot is read as it should be: none as Empty, one as Single with its index and total, two or more
 -- with different patterns as Collide, whatever their order; and any words of six ones that are not all equal as Collide, whoever sent them.
--- Words and counts are ORed. By the laws of an OR's ones at twelve digits.
+-- Nothing that senders leave is a click. Words and counts are ORed. By the laws of an OR's ones at twelve digits.
 -- Assumes nothing.
 use mathlib.Core.Path.{_≡_, ap, _∙_, sym}
 use mathlib.Core.List.{List, [], _∷_, _++_, map}
@@ -16,6 +16,7 @@ use Rattle.pattern.proofs.Patterns.{pattern-below, pattern-ones, pattern-once, 
 use Rattle.minislot.specs.declared.Minislot.{Minislot}
 use Rattle.minislot.specs.declared.Feedback.the-variants.{Collide}
 use Rattle.minislot.specs.declared.Reading.the-variants.{Heard}
+use Rattle.minislot.specs.Click.{Click}
 use Rattle.minislot.specs.Reading.{readingOf}
 use Rattle.requests.specs.Together.{Request, carries, silent, joined, together, spoken, Proper, SixOnes}
 use Rattle.minislot.proofs.Readings.{reads-empty, reads-single, reads-collide}
@@ -88,6 +89,15 @@ two-or-more r s l p = (
   mixed-ones (map carries (r ∷ s ∷ l)) (six-ones (r ∷ s ∷ l) p) 0 1 (omega arith) (omega arith) (first-two r s l p),
   ones-le 12 (together (map carries (r ∷ s ∷ l)) .word) (below (map carries (r ∷ s ∷ l)) (six-ones (r ∷ s ∷ l) p)),
 )
+
+-- NO CLICK: what senders leave together has no ones, six, or seven to twelve, never one to five
+pub no-click : (l : List Request) → Proper l → Click (together (map carries l) .word) → ⊥
+unfolding together
+no-click [] p k = omega (arith, ones-of-zero, k .some)
+no-click (r ∷ []) p k =
+    let one : ones (bitOr (wordOf (r .index)) 0) ≡ 6 = rw (or-zero-r (wordOf (r .index))) (pattern-ones (r .index) (p .0)) in
+    omega (arith, one, k .few)
+no-click (r ∷ s ∷ l) p k = omega (arith, two-or-more r s l p .0, k .few)
 
 -- ---- what is read
 

@@ -1,13 +1,15 @@
--- What a row's answer says to the layers above: its number is 6 or that of the first refused minislot, 1 to 4, or 0; and where it is 0 the
+-- What a row's answer says to the layers above: its number is 6 or that of the first refused minislot, 1, 3 or 4, or 0; and where it is 0 the
 -- weight and the array are those of the feedback heard, one for each minislot.
 -- Assumes nothing.
 use mathlib.Core.Path.{_≡_, refl, ap, _∙_}
 use mathlib.Core.Bool.{Bool, true, false}
 use mathlib.Core.List.{List, [], _∷_}
-use Prim.Native.Nat.{ℕ, zero, suc, _≤_}
+use mathlib.Core.Logic.{_≢_}
+use Prim.Native.Nat.{ℕ, zero, suc, _≤_, _<_}
 use native.Mathlib.Omega.{arith}
-use lib.ListN.{length, take}
+use lib.ListN.{length, take, getD}
 use Rattle.minislot.specs.declared.Feedback.{Feedback}
+use Rattle.minislot.specs.declared.Feedback.the-variants.{Empty}
 use Rattle.minislot.specs.declared.Reading.{Reading}
 use Rattle.minislot.specs.declared.Reading.the-variants.{Heard, Refused}
 use Rattle.minislot.specs.Reading.{readingOf}
@@ -24,7 +26,18 @@ first-small (w ∷ words) (c ∷ counts) = go (first-small words counts) (readin
   where
     go : firstNumber (readings words counts) ≤ 4 → (r : Reading) → readingOf w c ≡ r → firstNumber (r ∷ readings words counts) ≤ 4
     go ih (Heard f) e = ih
-    go ih (Refused n) e = refusal-number w c n e .1
+    go ih (Refused n) e = refusal-number w c n e .high
+
+-- is never 2, which is retired
+pub first-never-2 : (words counts : List ℕ) → firstNumber (readings words counts) ≢ 2
+unfolding readings firstNumber
+first-never-2 [] counts = λ e. omega arith
+first-never-2 (w ∷ words) [] = λ e. omega arith
+first-never-2 (w ∷ words) (c ∷ counts) = go (first-never-2 words counts) (readingOf w c) refl
+  where
+    go : firstNumber (readings words counts) ≢ 2 → (r : Reading) → readingOf w c ≡ r → firstNumber (r ∷ readings words counts) ≢ 2
+    go ih (Heard f) e = ih
+    go ih (Refused n) e = refusal-number w c n e .not-2
 
 -- with no refused minislot there is a feedback for each
 pub all-feedback : (words counts : List ℕ) → firstNumber (readings words counts) ≡ 0
@@ -38,7 +51,22 @@ all-feedback (w ∷ words) (c ∷ counts) e = go (all-feedback words counts) (re
         → (r : Reading) → readingOf w c ≡ r → firstNumber (r ∷ readings words counts) ≡ 0
         → length (feedbacks (r ∷ readings words counts)) ≡ suc (length (readings words counts))
     go ih (Heard f) q z = ap suc (ih z)
-    go ih (Refused n) q z = absurd (omega (arith, refusal-number w c n q))
+    go ih (Refused n) q z = absurd (omega (arith, refusal-number w c n q .low))
+
+-- and each minislot's reading is its feedback
+pub feedback-at : (words counts : List ℕ) (j : ℕ) → firstNumber (readings words counts) ≡ 0 → length words ≡ length counts → j < length words
+    → readingOf (getD words j 0) (getD counts j 0) ≡ Heard (getD (feedbacks (readings words counts)) j Empty)
+unfolding readings firstNumber feedbacks
+feedback-at [] counts j e l h = absurd (omega arith)
+feedback-at (w ∷ words) [] j e l h = absurd (omega arith)
+feedback-at (w ∷ words) (c ∷ counts) j e l h = go (readingOf w c) refl j e h (λ i z. feedback-at words counts i z (omega arith))
+  where
+    go : (r : Reading) → readingOf w c ≡ r → (j : ℕ) → firstNumber (r ∷ readings words counts) ≡ 0 → j < suc (length words)
+        → ((i : ℕ) → firstNumber (readings words counts) ≡ 0 → i < length words → readingOf (getD words i 0) (getD counts i 0) ≡ Heard (getD (feedbacks (readings words counts)) i Empty))
+        → readingOf (getD (w ∷ words) j 0) (getD (c ∷ counts) j 0) ≡ Heard (getD (feedbacks (r ∷ readings words counts)) j Empty)
+    go (Heard f) q zero z h ih = q
+    go (Heard f) q (suc j) z h ih = ih j z (omega arith)
+    go (Refused n) q j z h ih = absurd (omega (arith, refusal-number w c n q .low))
 
 module _ (m : ℕ) (words counts : List ℕ) where
   pub number-short : hasMinislots m words counts ≡ false → rowOf m words counts .number ≡ 6

@@ -57,7 +57,7 @@ abbrev pub rowAnswer : ℕ → List Feedback → RowReading
 rowAnswer zero l = record { number = 0; weight = weight l; minislots = padded 8 l }
 rowAnswer (suc n) l = record { number = suc n; weight = 0; minislots = padded 8 [] }
 
--- 1 to 4 for the first bad minislot, else all of them
+-- 1, 3 or 4 for the first bad minislot, else all of them
 unfoldable pub minislotsOf : List ℕ → List ℕ → RowReading
 minislotsOf words counts = rowAnswer (firstNumber (readings words counts)) (feedbacks (readings words counts))
 

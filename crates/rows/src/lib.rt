@@ -34,7 +34,7 @@ pub fn refused(number: u8) -> RowReading
     }
 }
 
-// Reads a row of m minislots. 6: the row has not m minislots. Then 1 to 4 for the first bad minislot.
+// Reads a row of m minislots. 6: the row has not m minislots. Then 1, 3 or 4 for the first bad minislot.
 pub fn read_row(words: &[u16], counts: &[u8], m: u8) -> RowReading
     ensures { λ r. ⌜ r ≡ rowOf m (now (words .entry)) (now (counts .entry)) ⌝ }
 {

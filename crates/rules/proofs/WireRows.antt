@@ -9,10 +9,11 @@ use lib.ListN.{length, take, getD}
 use Rattle.minislot.specs.declared.Minislot.{Minislot}
 use Rattle.minislot.specs.declared.Feedback.{Feedback}
 use Rattle.minislot.specs.declared.Reading.the-variants.{Heard}
+use Rattle.minislot.specs.Click.{Click}
 use Rattle.minislot.specs.Reading.{readingOf}
 use Rattle.rows.specs.Row.{readings, firstNumber, feedbacks}
 use Rattle.requests.specs.Together.{Request, carries, together, spoken, Apart, Proper}
-use Rattle.requests.proofs.Senders.{together-reads}
+use Rattle.requests.proofs.Senders.{together-reads, no-click}
 use Rattle.rules.specs.Hearing.{wordsOf, countsOf}
 use Rattle.rules.proofs.Views.{Sender, senderAt}
 use Rattle.rules.proofs.Clauses.{hearing}
@@ -90,6 +91,9 @@ module _ (ix : ℕ → ℕ) (K : ℕ) (I : Indexes ix K) (f : ℕ → List Sende
 
   pub minislot-reads : readingOf (leaves ix (gather f K) .word) (leaves ix (gather f K) .count) ≡ Heard (hearing ix (gather f K))
   minislot-reads = together-reads (map (asRequest ix) (gather f K)) (proper K 0 (omega arith)) ∙ ap Heard (spoken-is ix (gather f K))
+
+  pub minislot-no-click : Click (leaves ix (gather f K) .word) → ⊥
+  minislot-no-click = no-click (map (asRequest ix) (gather f K)) (proper K 0 (omega arith))
 
 -- a row of it
 module _ (ix : ℕ → ℕ) (K : ℕ) (I : Indexes ix K) (f : ℕ → ℕ → List Sender) (once : (j k : ℕ) → AsksOnce k (f j k)) where

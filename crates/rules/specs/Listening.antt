@@ -1,5 +1,5 @@
--- Listening (paper 01, "Operations and their numbers"): 18, 6, the first bad minislot's 1 to 4, 7; else the turn and the record after steps
--- 1 to 5. A refusal leaves the record as it was. Assumes nothing.
+-- Listening (paper 01, "Operations and their numbers"): 18, 6, the first bad minislot's 1, 3 or 4, 7; else the turn and the record after
+-- steps 1 to 5. A refusal leaves the record as it was. Assumes nothing.
 use mathlib.Core.Bool.{Bool, _&&_}
 use mathlib.Core.List.{List}
 use Prim.Native.Nat.{ℕ}
@@ -34,7 +34,7 @@ heardNumberOf c row = unless (stepOneOf c row .fits) 7 0
 unfoldable pub listenOf : Counters → List Feedback → Listened
 listenOf c row = byNumber (heardNumberOf c row) (refusedListening c) (listened c row)
 
--- LISTENING to a row of words and counts: 18, 6, 1 to 4, 7
+-- LISTENING to a row of words and counts: 18, 6, the first bad minislot's 1, 3 or 4, 7
 unfoldable pub listenNumberOf : Counters → List ℕ → List ℕ → ℕ
 listenNumberOf c words counts =
     unless (withinLimits c) 18

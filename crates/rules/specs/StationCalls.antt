@@ -84,7 +84,7 @@ unfoldable pub offerOf : Station → ℕ → StationOffered
 offerOf s bytes =
     byNumber (offerNumberOf s bytes) (refusedOffer s) (record { answer = Taken (slotsFor bytes); station = withMessage s bytes })
 
--- ---- a slot: 18, 6, 11, 1 to 4, 7, 12
+-- ---- a slot: 18, 6, 11, then 1, 3 or 4 of the first bad minislot, 7, 12
 
 abbrev pub refusedSlot : Station → ℕ → StationSlot
 refusedSlot s n = record { answer = RefusedSlot n; station = s }

@@ -1,5 +1,6 @@
 -- A slot on a sound table: every station's slot on the group's row of the wire goes through, by the counters that all share, so 12 never comes. The
--- start and the shared table that the laws of demand 3 speak of are made from the records themselves. Assumes nothing.
+-- start and the shared table that the laws of demand 3 speak of are made from the records themselves. And its wire, which only stations wrote, has no clicks.
+-- Assumes nothing.
 use mathlib.Core.Path.{_≡_, refl, sym, ap, subst, _∙_}
 use mathlib.Core.Bool.{Bool, true, false, not, cond, _&&_}
 use mathlib.Core.List.{List, [], _∷_, _++_, map}
@@ -16,6 +17,7 @@ use Rattle.minislot.specs.declared.Minislot.{Minislot}
 use Rattle.minislot.specs.declared.Feedback.{Feedback}
 use Rattle.minislot.specs.declared.Reading.{Reading}
 use Rattle.minislot.specs.declared.Reading.the-variants.{Heard}
+use Rattle.minislot.specs.Click.{Click}
 use Rattle.rows.specs.Row.{readings, firstNumber, feedbacks}
 use Rattle.requests.specs.Together.{Request, carries, silent, together}
 use Rattle.rules.specs.declared.Counters.{Counters}
@@ -36,19 +38,22 @@ use Rattle.rules.specs.OwnHearing.{ownMinislot, ownTotal, hearsFrom, hearsItsel
 use Rattle.rules.specs.StationCalls.{noStation, slotOf}
 use Rattle.channel_rules.specs.Soundness.{tableCounters, askedRequests, askedMinislot, soundTable}
 use Rattle.channel_rules.specs.SoundMeaning.{stationAt, Sound}
-use Rattle.channel_rules.specs.ChannelCalls.{Channel, blankRow, heardRow, slotsOf}
+use Rattle.channel_rules.specs.ChannelCalls.{Channel, blankRow, channelStartOf, channelAfter, heardRow, slotsOf}
 use Rattle.rules.specs.Outcome.{outcomeOf}
 use Rattle.rules.specs.Stepping.{stepOf}
 use Rattle.rules.specs.Calls.{Start, index}
 use Rattle.rules.proofs.Views.{Sender, senderAt, eqb-self}
 use Rattle.rules.proofs.Shared.{Table, collect, gather, askedSender, askedRow}
 use Rattle.rules.proofs.SlotStep.{and-both}
-use Rattle.rules.proofs.WireRows.{asRequest, leaves, minislotRow, length-row, take-row, row-at, AsksOnce, Indexes, feedbackRow, row-reads, heard-number, heard-feedbacks}
+use Rattle.rules.proofs.WireRows.{asRequest, leaves, minislotRow, length-row, take-row, row-at, AsksOnce, Indexes, feedbackRow, row-reads, minislot-no-click, heard-number, heard-feedbacks}
 use Rattle.rules.proofs.OwnHears.{hears-row}
 use Rattle.rules.proofs.Walking.{IsStation, AreStations, slot-steps}
 use Rattle.channel_rules.proofs.Embody.{feedback-is}
 use Rattle.channel_rules.proofs.SoundKept.{asked-are}
-use Rattle.channel_rules.proofs.SoundMeans.{sound-says}
+use Rattle.channel_rules.proofs.SoundMeans.{sound-says, says-sound}
+use Rattle.channel_rules.proofs.Theorem.{demand3}
+use Rattle.requests.proofs.Senders.{no-click}
+use Rattle.sound_slots.specs.NoClicks.{NoClicks, NoClicksHold, NoClicksEver}
 use Rattle.rules.proofs.LimitLaws.{Within, within-limits, arrays-lengths, between-bounds, station-in}
 
 -- a condition within its limits asks nothing, or once with a total of 1 or more
@@ -187,6 +192,14 @@ module _ (stations : List Station) (wire : List WireRow) (some : 1 ≤ length st
           ∙ sym (row-at (index (startMade stations)) (length stations) (λ j k. askedSender g j k (getD stations k noStation .condition)) 8 1 i silent h
           ∙ ap (λ (z : ℕ). leaves (index (startMade stations)) (gather (λ k. askedSender g z k (getD stations k noStation .condition)) (length stations))) (let e : 1 + i ≡ suc i = omega arith in e))
 
+  -- no minislot of the wire is a click
+  pub wire-no-click : NoClicks wire
+  wire-no-click g j gl gh jl jh k =
+      minislot-no-click (index (startMade stations)) (length stations) indexes (λ k. askedSender g (1 + (j - 1)) k (getD stations k noStation .condition)) (once g (1 + (j - 1)))
+      (subst (λ (s : Minislot). Click (s .word))
+      (ap (λ (l : List Minislot). getD l (j - 1) silent) (wire-row g gl gh)
+      ∙ row-at (index (startMade stations)) (length stations) (λ j k. askedSender g j k (getD stations k noStation .condition)) 8 1 (j - 1) silent (omega arith)) k)
+
   next-low : 1 ≤ tableCounters stations .next
   next-low = limits .next .0
 
@@ -253,3 +266,15 @@ module _ (stations : List Station) (wire : List WireRow) (some : 1 ≤ length st
         (rw (counters-shared k h) fits)
         (hears k h)
         ∙ ap (λ (c : Counters). stepOf (outcomeOf c rowHere) (stationAt stations k) pick) (counters-shared k h)
+
+-- A SOUND TABLE'S WIRE has no clicks: its minislots are what stations asked there, or nobody
+pub no-clicks : NoClicksHold
+unfolding askedMinislot
+no-clicks [] wire it = λ g j gl gh jl jh k. no-click [] tt (subst (λ (s : Minislot). Click (s .word)) (it .wire g j gl gh jl jh) k)
+no-clicks (s ∷ stations) wire it = wire-no-click (s ∷ stations) wire (omega arith) (says-sound (s ∷ stations) wire it)
+
+-- and neither has a channel's after any list of calls
+pub no-clicks-ever : NoClicksEver
+no-clicks-ever before m n indexes ready calls =
+    let after = channelAfter (channelStartOf before m n indexes .state) calls in
+    no-clicks (after .stations) (after .wire) (demand3 before m n indexes ready calls .sound)

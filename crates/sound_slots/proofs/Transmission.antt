@@ -14,9 +14,10 @@ use Rattle.minislot.specs.declared.Minislot.{Minislot}
 use Rattle.minislot.specs.declared.Feedback.{Feedback}
 use Rattle.minislot.specs.declared.Feedback.the-variants.{Empty, Single, Collide}
 use Rattle.rows.specs.Row.{readings, firstNumber, feedbacks}
+use Rattle.minislot.specs.Click.{Click}
 use Rattle.minislot.specs.Reading.{readingOf}
 use Rattle.requests.specs.Together.{Request, carries, silent, together, Apart, Proper}
-use Rattle.requests.proofs.Senders.{together-reads}
+use Rattle.requests.proofs.Senders.{together-reads, no-click}
 use Rattle.rules.specs.declared.Counters.{Counters}
 use Rattle.rules.specs.declared.Station.{Station}
 use Rattle.rules.specs.declared.StationSlot.{StationSlot}
@@ -214,6 +215,8 @@ account stations words counts picks e w =
       made = at;
       read = λ j lo hi.
           ap (λ (s : Minislot). readingOf (s .word) (s .count)) (at j lo hi) ∙ together-reads (requestsIn j (slotsOf words counts stations picks)) (proper words counts j lo stations picks e w);
+      no-click = λ j lo hi k.
+          no-click (requestsIn j (slotsOf words counts stations picks)) (proper words counts j lo stations picks e w) (subst (λ (s : Minislot). Click (s .word)) (at j lo hi) k);
     }
   where
     at : (j : ℕ) → 1 ≤ j → j ≤ 8 → getD (newRow (slotsOf words counts stations picks) 8 1) (j - 1) silent ≡ together (map carries (requestsIn j (slotsOf words counts stations picks)))

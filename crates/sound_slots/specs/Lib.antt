@@ -1,3 +1,4 @@
--- Demand 2's account of the row, and how long the queues of a sound table can be.
+-- Demand 2's account of the row, that the wire has no clicks, and how long the queues of a sound table can be.
 pub mod RowAccount
+pub mod NoClicks
 pub mod Room

@@ -1,11 +1,14 @@
 -- Demand 2's account of the row (paper 01, "Minislots and patterns"): what the stations transmit in a slot makes the group's new row, and
--- read back it shows who spoke alone, for how many slots, and where two or more spoke. Assumes nothing.
+-- read back it shows who spoke alone, for how many slots, and where two or more spoke. It covers rows without clicks (paper 02, T-01): in
+-- a row with clicks a Collide may stand for one station or none, and of such a row nothing is said here. No row that only stations wrote
+-- has one: the field `no-click`, and specs/NoClicks of all that stands on a channel's wire. Assumes nothing.
 use mathlib.Core.Path.{_≡_}
 use mathlib.Core.List.{List, map}
 use Prim.Native.Nat.{ℕ, _-_, _≤_}
 use lib.ListN.{length, getD}
 use Rattle.minislot.specs.declared.Minislot.{Minislot}
 use Rattle.minislot.specs.declared.Reading.the-variants.{Heard}
+use Rattle.minislot.specs.Click.{Click}
 use Rattle.minislot.specs.Reading.{readingOf}
 use Rattle.requests.specs.Together.{carries, silent, together, spoken}
 use Rattle.rules.specs.declared.StationSlot.{StationSlot}
@@ -24,6 +27,8 @@ pub record RowAccount (results : List StationSlot) (row : List Minislot) : Type 
   -- and reads as Empty, as the one that spoke alone with its slots, or as Collide
   pub read : (j : ℕ) → 1 ≤ j → j ≤ 8
       → readingOf (getD row (j - 1) silent .word) (getD row (j - 1) silent .count) ≡ Heard (spoken (requestsIn j results))
+  -- and is no click: a Collide has seven to twelve ones
+  pub no-click : (j : ℕ) → 1 ≤ j → j ≤ 8 → Click (getD row (j - 1) silent .word) → ⊥
 
 -- of every slot of every channel that goes through
 abbrev pub RowAccountHolds : Type 0

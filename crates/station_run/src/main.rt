@@ -5,8 +5,12 @@
 // has the call's arguments (a slot's minislots as word and count in turn); it is written, then the answer, then a line `record` with the
 // record after the call: m, n, the next group, H, N, eight RQ, eight Open marks, the index and the condition. A line `given` makes a record
 // that no call made, of the same numbers (an Open mark is 1 for yes), the condition in a group of its own. `keep` keeps the record, and
-// `again` comes back to the one that was kept.
+// `again` comes back to the one that was kept. A line `recording` has the minislots that `slot_at` takes its row from, word and count in
+// turn. A line `listener` starts a listener; `beside` is a `slot_at` that this listener hears too, and after the station's record come the
+// listener's turn and its counters.
 use libc::STDIN_FILENO;
+use rules::Counters;
+use rules::ListenAnswer;
 use rules::OfferAnswer;
 use rules::SlotAnswer;
 use rules::Station;
@@ -21,6 +25,7 @@ use runs_cases::number16;
 use runs_cases::which;
 use runs_cases::words;
 use runs_records::condition_of;
+use runs_records::counters_numbers;
 use runs_records::counters_of;
 use runs_records::record_line;
 use runs_records::refused_line;
@@ -28,12 +33,15 @@ use runs_records::start_line;
 use runs_records::taken_line;
 use runs_records::turn_number;
 use runs_records::went_line;
+use runs_text::form;
 use runs_text::text;
 
-// The record that the next call is made on, and the one that was kept.
+// The record that the next call is made on, and the one that was kept; a listener's record, and the recording that both hear.
 struct Records {
     last: Station,
     kept: Station,
+    beside: Counters,
+    recording: Group,
 }
 
 // ---- the calls
@@ -81,25 +89,60 @@ fn slot(s: Station, head: Group) -> Station {
     r.station
 }
 
-// A row of one recording.
-fn slot_at(s: Station, place: usize, pick: u8) -> Station {
-    let words = [0u16, 0, 63, 95, 127, 0, 63];
-    let counts = [0u8, 0, 1, 3, 1, 0, 0];
-    let r = recorded_slot::slot_at(s, &words, &counts, place, pick);
+// A row of the recording, whose words and counts stand in turn.
+fn slot_at(s: Station, recording: Group, place: usize, pick: u8) -> Station {
+    let words = words(recording, 1, 2);
+    let counts = counts(recording, 2, 2);
+    let end = count(recording) / 2;
+    let r = recorded_slot::slot_at(s, &words[0..end], &counts[0..end], place, pick);
     let answer = r.answer;
     slot_line(answer);
     r.station
 }
 
-// The record after a call: 4 a start, 5 an offer, 6 a slot, 7 a slot of the recording.
-fn called(s: Station, call: u64, head: Group) -> Station {
+// The record after a call: 1 a start, 2 an offer, 3 a slot, 4 or 5 a slot of the recording.
+fn called(s: Station, recording: Group, call: u64, head: Group) -> Station {
     let first = number(head, 1) as usize;
     match call {
-        4 => start(head),
-        5 => offer(s, first),
-        6 => slot(s, head),
-        _ => slot_at(s, first, number8(head, 2)),
+        1 => start(head),
+        2 => offer(s, first),
+        3 => slot(s, head),
+        _ => slot_at(s, recording, first, number8(head, 2)),
     }
+}
+
+// ---- the listener
+
+fn counters_line(c: Counters) {
+    let numbers = counters_numbers(c);
+    form(
+        b"counters,#,#,#,#,#,#,#,#,#,#,#,#,#,?,?,?,?,?,?,?,?\n",
+        &numbers[0..21],
+    );
+}
+
+fn listener_start(head: Group) -> Counters {
+    let r = listener::start(number8(head, 1), number8(head, 2));
+    let answer = r.answer;
+    start_line(answer);
+    r.counters
+}
+
+// The same row of the recording.
+fn listen_at(c: Counters, recording: Group, place: usize) -> Counters {
+    let words = words(recording, 1, 2);
+    let counts = counts(recording, 2, 2);
+    let end = count(recording) / 2;
+    let r = listening::listen_at(c, &words[0..end], &counts[0..end], place);
+    let answer = r.answer;
+    match answer {
+        ListenAnswer::Went(turn) => {
+            let numbers = [turn_number(turn)];
+            went_line(&numbers);
+        }
+        ListenAnswer::Refused(number) => refused_line(number),
+    }
+    r.counters
 }
 
 // ---- the cases
@@ -113,32 +156,66 @@ fn given(line: &[u8], head: Group) -> Station {
     }
 }
 
-// One line; a note leaves all as it was.
-fn case(r: Records, line: &[u8]) -> Records {
+// A call: its line, the answer and the record after; 5 is heard by the listener too, and 6 starts one.
+fn call(r: Records, line: &[u8], kind: u64, head: Group) -> Records {
     let mut r = r;
-    let head = group_at(line, 0);
+    let last = r.last;
+    let beside = r.beside;
+    let recording = r.recording;
+    text(line);
+    text(b"\n");
+    if kind < 6 {
+        let s = called(last, recording, kind, head);
+        record_line(s);
+        r.last = s;
+    }
+    if kind < 5 {
+        return r;
+    }
+    let c = if kind == 5 {
+        listen_at(beside, recording, number(head, 1) as usize)
+    } else {
+        listener_start(head)
+    };
+    counters_line(c);
+    r.beside = c;
+    r
+}
+
+// A line that is no call: 7 keeps the record, 8 comes back to the one that was kept, 9 gives one, 10 has a recording.
+fn set(r: Records, line: &[u8], kind: u64, head: Group) -> Records {
+    let mut r = r;
     let last = r.last;
     let kept = r.kept;
-    let kind = which(line, 0, b"keep again given start offer slot slot_at ");
     match kind {
-        0 => {}
-        1 => r.kept = last,
-        2 => r.last = kept,
-        3 => {
+        7 => r.kept = last,
+        8 => r.last = kept,
+        9 => {
             let s = given(line, head);
             text(b"given\n");
             record_line(s);
             r.last = s;
         }
-        _ => {
-            text(line);
-            text(b"\n");
-            let s = called(last, kind, head);
-            record_line(s);
-            r.last = s;
-        }
+        _ => r.recording = head,
     }
     r
+}
+
+// One line; a note leaves all as it was.
+fn case(r: Records, line: &[u8]) -> Records {
+    let head = group_at(line, 0);
+    let kind = which(
+        line,
+        0,
+        b"start offer slot slot_at beside listener keep again given recording ",
+    );
+    if kind == 0 {
+        return r;
+    }
+    if kind < 7 {
+        return call(r, line, kind, head);
+    }
+    set(r, line, kind, head)
 }
 
 fn cases(bytes: &[u8], r: Records) {
@@ -154,6 +231,15 @@ fn cases(bytes: &[u8], r: Records) {
 fn main() {
     let mut space = io::large_buffer();
     let n = io::read_full(STDIN_FILENO, &mut space);
-    let s = given(b"", group_at(b"", 0));
-    cases(&space[..n], Records { last: s, kept: s });
+    let none = group_at(b"", 0);
+    let s = given(b"", none);
+    cases(
+        &space[..n],
+        Records {
+            last: s,
+            kept: s,
+            beside: counters_of(none),
+            recording: none,
+        },
+    );
 }

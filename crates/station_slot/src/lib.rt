@@ -12,8 +12,8 @@ ghost use Rattle.rules.specs.StationCalls.{slotOf};
 ghost use Rattle.rules.specs.Numbers.{slotTold};
 ghost use Rattle.rules.specs.Answered.{slotToldOf};
 
-// A station within its limits. 6: the row has not m minislots. 11: the pick is outside 1 to m. Then 1 to 4 for the first bad minislot, 7
-// and 12.
+// A station within its limits. 6: the row has not m minislots. 11: the pick is outside 1 to m. Then 1, 3 or 4 for the first bad minislot,
+// 7 and 12.
 fn hear(s: Station, words: &[u16], counts: &[u8], pick: u8) -> StationSlot
     requires { ⌜ stationWithin s ≡ true ⌝ }
     ensures { λ r. ⌜ r ≡ slotOf s (now (words .entry)) (now (counts .entry)) pick ⌝ }
@@ -36,9 +36,9 @@ fn hear(s: Station, words: &[u16], counts: &[u8], pick: u8) -> StationSlot
     refused_slot(s, number)
 }
 
-// A station's slot. 18: the record is outside its limits. 6: the row has not m minislots. 11: the pick is outside 1 to m. Then 1 to 4 for
-// the first bad minislot. 7: a counter would pass its limit in step 1. 12: what the station must hear of itself is missing or foreign. A
-// refusal leaves the record as it was.
+// A station's slot. 18: the record is outside its limits. 6: the row has not m minislots. 11: the pick is outside 1 to m. Then 1, 3 or 4
+// for the first bad minislot. 7: a counter would pass its limit in step 1. 12: what the station must hear of itself is missing or foreign.
+// A refusal leaves the record as it was.
 pub fn slot(s: Station, words: &[u16], counts: &[u8], pick: u8) -> StationSlot
     ensures left { λ r. ⌜ r ≡ slotOf s (now (words .entry)) (now (counts .entry)) pick ⌝ }
     ensures told { λ r. ⌜ slotTold (r .answer) ≡ slotToldOf s (now (words .entry)) (now (counts .entry)) pick ⌝ }

@@ -61,7 +61,7 @@ returns c =
     (omega (arith, readings-length (a .args .words .now) (a .args .counts .now) (omega arith))) here (l .inv .2) in
     c .refused .ensures
     ∙ refused-answer (a .args .words .now) (a .args .counts .now) (told .0 .0)
-    (refusal-number _ _ _ (sym (c .before .before .before .before .read .ensures .0) ∙ told .1) .0) first
+    (refusal-number _ _ _ (sym (c .before .before .before .before .read .ensures .0) ∙ told .1) .low) first
 
 mul-minislots : tie.Need-mul-minislots Inv-loop μ-loop
 mul-minislots c = search needs
