@@ -5,7 +5,7 @@ use mathlib.Core.Bool.{true}
 use mathlib.Core.List.{List}
 use mathlib.Core.Logic.{_≢_}
 use Prim.Native.Nat.{ℕ, _+_, _-_, _<_, _≤_}
-use lib.ListN.{getD, take}
+use lib.ListN.{getD}
 use Rattle.pattern.specs.Ones.{containsOnes}
 use Rattle.pattern.specs.Patterns.{wordOf}
 use Rattle.minislot.specs.Click.{Click}
@@ -18,7 +18,7 @@ use Rattle.rules.specs.declared.Counters.{Counters}
 use Rattle.rules.specs.declared.Places.{Places}
 use Rattle.rules.specs.declared.Station.{Station}
 use Rattle.rules.specs.Limits.{between}
-use Rattle.rules.specs.Queueing.{queuedRow, placesOf, immediateOf, stepOneOf}
+use Rattle.rules.specs.Queueing.{placesBefore, placesOf, immediateOf, stepOneOf}
 use Rattle.rules.specs.Listening.{hasRow}
 use Rattle.rules.specs.declared.Condition.{Condition}
 use Rattle.rules.specs.declared.Condition.the-variants.{Asked, Resolving}
@@ -37,7 +37,7 @@ heardIn words counts = feedbacks (readings words counts)
 
 -- the lengths of the queues when the minislots before minislot j have been counted in step 1
 abbrev pub lengthsBefore : Counters → List Feedback → ℕ → Places
-lengthsBefore c row j = queuedRow (immediateOf c row) (placesOf c) (take (j - 1) row)
+lengthsBefore c row j = placesBefore (immediateOf c row) (placesOf c) row j
 
 -- where a station stands after step 1 of a slot
 abbrev pub settledHearing : Station → List Feedback → Condition

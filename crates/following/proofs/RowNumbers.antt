@@ -6,60 +6,45 @@ use mathlib.Core.List.{List}
 use mathlib.Core.Logic.{_≢_}
 use Prim.Native.Nat.{ℕ, _≤_}
 use native.Mathlib.Omega.{arith}
-use lib.Dec.{eqb, ltb}
+use lib.Dec.{ltb}
+use Rattle.minislot.proofs.Readings.{Listed}
 use Rattle.rows.specs.Row.{readings, firstNumber, feedbacks}
-use Rattle.rows.proofs.Answers.{first-small}
 use Rattle.rules.specs.declared.Counters.{Counters}
-use Rattle.rules.specs.Refusing.{orNext}
 use Rattle.rules.specs.Limits.{withinLimits}
 use Rattle.rules.specs.Starting.{inRanges, startNumberOf}
 use Rattle.rules.specs.Queueing.{passes, stepOneOf, placesAfter}
 use Rattle.rules.specs.Listening.{hasRow, heardNumberOf, listenNumberOf}
-use Rattle.rules.proofs.Refusals.{unless-low, test-passed, none-found}
-use Rattle.clicks.proofs.NeverTwoHolds.{unless-not, never-two}
+use Rattle.rules.proofs.ListeningLaws.{listen-by}
+use Rattle.rules.proofs.Refusals.{unless-by, test-passed, none-found}
 use Rattle.following.specs.declared.Follower.{Follower}
 use Rattle.following.specs.RecordNumbers.{firstMinislots, firstGroups, rowWords, rowCounts, isFirst, isRow, hasFields, firstNumberOf, rowNumberOf, recordNumberOf}
 use Rattle.following.specs.Following.{rowPlaces}
 
-next-low : (n after : ℕ) → n ≤ 19 → after ≤ 19 → orNext n after ≤ 19
-next-low n after h l = go (eqb n 0)
-  where
-    go : (b : Bool) → cond b after n ≤ 19
-    go true = l
-    go false = h
-
-listen-low : (c : Counters) (words counts : List ℕ) → listenNumberOf c words counts ≤ 19
-unfolding listenNumberOf heardNumberOf
-listen-low c words counts =
-    let row = feedbacks (readings words counts) in
-    unless-low (withinLimits c) 18 _ (omega arith)
-    (unless-low (hasRow (c .minislots) words counts) 6 _ (omega arith)
-    (next-low (firstNumber (readings words counts)) _ (omega (arith, first-small words counts))
-    (unless-low (stepOneOf c row .fits) 7 0 (omega arith) (omega arith))))
+-- what holds of 0 and of every number of a row's list holds of the row's number
+row-by : (P : ℕ → Type 0) → P 0 → P 19 → P 18 → P 6 → ((n : ℕ) → Listed n → P n) → P 7 → (f : Follower) (bytes : List ℕ) → P (rowNumberOf f bytes)
+unfolding rowNumberOf
+row-by P none p19 p18 p6 listed p7 f bytes =
+    unless-by P (isRow bytes) 19 _ p19
+    (unless-by P (hasFields f bytes) 6 _ p6 (listen-by P none p18 p6 listed p7 (f .counters) (rowWords bytes) (rowCounts bytes)))
 
 pub row-low : (f : Follower) (bytes : List ℕ) → rowNumberOf f bytes ≤ 19
-unfolding rowNumberOf
-row-low f bytes =
-    unless-low (isRow bytes) 19 _ (omega arith)
-    (unless-low (hasFields f bytes) 6 _ (omega arith) (listen-low (f .counters) (rowWords bytes) (rowCounts bytes)))
+row-low = row-by (λ n. n ≤ 19) (omega arith) (omega arith) (omega arith) (omega arith) (λ n l. omega (arith, l .high)) (omega arith)
 
 -- 2 is retired: no record gives it
 pub record-never-2 : (f : Follower) (bytes : List ℕ) → recordNumberOf f bytes ≢ 2
-unfolding recordNumberOf rowNumberOf firstNumberOf startNumberOf
+unfolding recordNumberOf firstNumberOf startNumberOf
 record-never-2 f bytes = go (ltb 1 (f .place))
   where
-    of-row : rowNumberOf f bytes ≢ 2
-    of-row =
-        unless-not (isRow bytes) 19 _ (λ e. omega arith)
-        (unless-not (hasFields f bytes) 6 _ (λ e. omega arith) (never-two .listening (f .counters) (rowWords bytes) (rowCounts bytes)))
+    Other : ℕ → Type 0
+    Other n = n ≢ 2
 
     of-first : firstNumberOf bytes ≢ 2
     of-first =
-        unless-not (isFirst bytes) 19 _ (λ e. omega arith)
-        (unless-not (inRanges (firstMinislots bytes) (firstGroups bytes)) 5 0 (λ e. omega arith) (λ e. omega arith))
+        unless-by Other (isFirst bytes) 19 _ (λ e. omega arith)
+        (unless-by Other (inRanges (firstMinislots bytes) (firstGroups bytes)) 5 0 (λ e. omega arith) (λ e. omega arith))
 
     go : (b : Bool) → cond b (rowNumberOf f bytes) (firstNumberOf bytes) ≢ 2
-    go true = of-row
+    go true = row-by Other (λ e. omega arith) (λ e. omega arith) (λ e. omega arith) (λ e. omega arith) (λ n l. l .not-2) (λ e. omega arith) f bytes
     go false = of-first
 
 -- a row of number 0 has passed the test of the limits and step 1's

@@ -4,7 +4,6 @@
 use mathlib.Core.Path.{_≡_, refl, ap, _∙_}
 use mathlib.Core.Bool.{Bool, true, false}
 use mathlib.Core.List.{List, [], _∷_}
-use mathlib.Core.Logic.{_≢_}
 use Prim.Native.Nat.{ℕ, zero, suc, _≤_, _<_}
 use native.Mathlib.Omega.{arith}
 use lib.ListN.{length, take, getD}
@@ -14,30 +13,22 @@ use Rattle.minislot.specs.declared.Reading.{Reading}
 use Rattle.minislot.specs.declared.Reading.the-variants.{Heard, Refused}
 use Rattle.minislot.specs.Reading.{readingOf}
 use Rattle.rows.specs.Row.{readings, firstNumber, feedbacks, weight, feedbackIn, rowAnswer, minislotsOf, hasMinislots, rowOf}
-use Rattle.minislot.proofs.Readings.{refusal-number}
+use Rattle.minislot.proofs.Readings.{Listed, refusal-number}
 use Rattle.rows.proofs.Row.{readings-length, padded-holds, row-tests}
 
--- the first refused minislot's number
-pub first-small : (words counts : List ℕ) → firstNumber (readings words counts) ≤ 4
+-- the first refused minislot's number is 0 or one of a reading's
+pub first-by : (P : ℕ → Type 0) → P 0 → ((n : ℕ) → Listed n → P n) → (words counts : List ℕ) → P (firstNumber (readings words counts))
 unfolding readings firstNumber
-first-small [] counts = omega arith
-first-small (w ∷ words) [] = omega arith
-first-small (w ∷ words) (c ∷ counts) = go (first-small words counts) (readingOf w c) refl
+first-by P none listed [] counts = none
+first-by P none listed (w ∷ words) [] = none
+first-by P none listed (w ∷ words) (c ∷ counts) = go (first-by P none listed words counts) (readingOf w c) refl
   where
-    go : firstNumber (readings words counts) ≤ 4 → (r : Reading) → readingOf w c ≡ r → firstNumber (r ∷ readings words counts) ≤ 4
+    go : P (firstNumber (readings words counts)) → (r : Reading) → readingOf w c ≡ r → P (firstNumber (r ∷ readings words counts))
     go ih (Heard f) e = ih
-    go ih (Refused n) e = refusal-number w c n e .high
+    go ih (Refused n) e = listed n (refusal-number w c n e)
 
--- is never 2, which is retired
-pub first-never-2 : (words counts : List ℕ) → firstNumber (readings words counts) ≢ 2
-unfolding readings firstNumber
-first-never-2 [] counts = λ e. omega arith
-first-never-2 (w ∷ words) [] = λ e. omega arith
-first-never-2 (w ∷ words) (c ∷ counts) = go (first-never-2 words counts) (readingOf w c) refl
-  where
-    go : firstNumber (readings words counts) ≢ 2 → (r : Reading) → readingOf w c ≡ r → firstNumber (r ∷ readings words counts) ≢ 2
-    go ih (Heard f) e = ih
-    go ih (Refused n) e = refusal-number w c n e .not-2
+pub first-small : (words counts : List ℕ) → firstNumber (readings words counts) ≤ 4
+first-small = first-by (λ n. n ≤ 4) (omega arith) (λ n l. l .high)
 
 -- with no refused minislot there is a feedback for each
 pub all-feedback : (words counts : List ℕ) → firstNumber (readings words counts) ≡ 0

@@ -1,5 +1,5 @@
 -- Listening by the row's reading, for whoever reads the row first: 18 outside the limits; a row that is refused is refused with its number; one that is
--- heard is listened to. Assumes nothing.
+-- heard is listened to. And what holds of every number of its list holds of its number. Assumes nothing.
 use mathlib.Core.Path.{_≡_, refl}
 use mathlib.Core.Bool.{Bool, true, false}
 use mathlib.Core.List.{List}
@@ -7,13 +7,16 @@ use mathlib.Core.Logic.{_≢_}
 use Prim.Native.Nat.{ℕ}
 use lib.Dec.{eqb}
 use borrow.Author.Tests.{le-leb, ne-eqb}
-use Rattle.rows.specs.Row.{readings, firstNumber, hasMinislots, rowOf}
-use Rattle.rows.proofs.Answers.{number-zero, number-short, number-whole}
+use Rattle.minislot.proofs.Readings.{Listed}
+use Rattle.rows.specs.Row.{readings, firstNumber, feedbacks, hasMinislots, rowOf}
+use Rattle.rows.proofs.Answers.{first-by, number-zero, number-short, number-whole}
 use Rattle.rules.specs.declared.Counters.{Counters}
 use Rattle.rules.specs.Limits.{withinLimits}
 use Rattle.rules.specs.Hearing.{feedbackOf}
-use Rattle.rules.specs.Listening.{refusedListening, listenOf, hasRow, listenNumberOf, listeningOf}
+use Rattle.rules.specs.Queueing.{stepOneOf}
+use Rattle.rules.specs.Listening.{refusedListening, heardNumberOf, listenOf, hasRow, listenNumberOf, listeningOf}
 use Rattle.rules.proofs.LimitLaws.{within-limits}
+use Rattle.rules.proofs.Refusals.{unless-by, next-by}
 use Rattle.rules.proofs.RowReads.{none-refused, feedback-is}
 
 -- within the limits m is 2 to 8, so a row is short exactly where it has not m words and m counts
@@ -22,6 +25,16 @@ pub same-test : (c : Counters) (words counts : List ℕ) → withinLimits c ≡ 
 same-test c words counts within =
     let w = within-limits c within in
     rw (le-leb 2 (c .minislots) (w .minislots .0), le-leb (c .minislots) 8 (w .minislots .1))
+
+-- its number is 0, 18, 6, one of a reading's, or 7
+pub listen-by : (P : ℕ → Type 0) → P 0 → P 18 → P 6 → ((n : ℕ) → Listed n → P n) → P 7
+    → (c : Counters) (words counts : List ℕ) → P (listenNumberOf c words counts)
+unfolding listenNumberOf heardNumberOf
+listen-by P none p18 p6 listed p7 c words counts =
+    unless-by P (withinLimits c) 18 _ p18
+    (unless-by P (hasRow (c .minislots) words counts) 6 _ p6
+    (next-by P (firstNumber (readings words counts)) _ (first-by P none listed words counts)
+    (unless-by P (stepOneOf c (feedbacks (readings words counts)) .fits) 7 0 p7 none)))
 
 module _ (c : Counters) (words counts : List ℕ) where
   pub listening-18 : withinLimits c ≡ false → refusedListening c 18 ≡ listeningOf c words counts

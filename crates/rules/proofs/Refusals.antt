@@ -29,10 +29,23 @@ by-ap f n refusal through = go (eqb n 0)
     go true = refl
     go false = refl
 
--- no number of a list is above 19 if none of its tests' is
+-- ---- what holds of every number of a list holds of the one that comes
+
+module _ (P : ℕ → Type 0) where
+  pub unless-by : (b : Bool) (n after : ℕ) → P n → P after → P (unless b n after)
+  unless-by true n after h l = l
+  unless-by false n after h l = h
+
+  pub next-by : (n after : ℕ) → P n → P after → P (orNext n after)
+  next-by n after h l = go (eqb n 0)
+    where
+      go : (b : Bool) → P (cond b after n)
+      go true = l
+      go false = h
+
+-- none is above 19 if none of the tests' is
 pub unless-low : (b : Bool) (n after : ℕ) → n ≤ 19 → after ≤ 19 → unless b n after ≤ 19
-unless-low true n after h l = l
-unless-low false n after h l = h
+unless-low = unless-by (λ n. n ≤ 19)
 
 -- ---- a call that went through
 

@@ -12,7 +12,7 @@ use Rattle.minislot.specs.declared.Feedback.the-variants.{Empty, Single, Collid
 use Rattle.rules.specs.declared.Counters.{Counters}
 use Rattle.rules.specs.declared.Places.{Places}
 use Rattle.rules.specs.StationLimits.{Condition, Free, Fresh, Asked, Resolving, Urgent, Long}
-use Rattle.rules.specs.Queueing.{queued, queuedRow, placesOf, immediateOf, placesAfter, stepOneOf}
+use Rattle.rules.specs.Queueing.{queued, queuedRow, placesBefore, placesOf, immediateOf, placesAfter, stepOneOf}
 use Rattle.rules.specs.declared.Landed.{Landed}
 use Rattle.rules.specs.declared.Station.{Station}
 use Rattle.rules.specs.declared.StationSlot.{StationSlot}
@@ -37,10 +37,7 @@ standsAfter b g p Empty t = Free
 standsAfter b g p (Single i c) t = standsAlone b (eqb c 1) p t
 standsAfter b g p Collide t = Resolving g (p .resolution + 1) t
 
--- the lengths before minislot j of the row (from 1), and that minislot's feedback
-abbrev pub placesBefore : Bool → Places → List Feedback → ℕ → Places
-placesBefore b p row j = queuedRow b p (take (j - 1) row)
-
+-- minislot j's feedback
 abbrev pub feedbackAt : List Feedback → ℕ → Feedback
 feedbackAt row j = getD row (j - 1) Empty
 

@@ -4,7 +4,7 @@ use mathlib.Core.Bool.{Bool, true, false, not, _&&_, _||_}
 use mathlib.Core.List.{List, foldl}
 use Prim.Native.Nat.{ℕ, _+_, _-_}
 use lib.Dec.{ltb, eqb}
-use lib.ListN.{getD}
+use lib.ListN.{getD, take}
 use Rattle.minislot.specs.declared.Feedback.{Feedback}
 use Rattle.minislot.specs.declared.Feedback.the-variants.{Empty, Single, Collide}
 use Rattle.rows.specs.Row.{weight}
@@ -32,6 +32,10 @@ queued b p Collide = record { urgent = p .urgent; long = p .long; resolution = p
 -- minislots 1 to m, in order
 unfoldable pub queuedRow : Bool → Places → List Feedback → Places
 queuedRow b p row = foldl (queued b) p row
+
+-- the lengths when the minislots before minislot j, from 1, have been counted
+abbrev pub placesBefore : Bool → Places → List Feedback → ℕ → Places
+placesBefore b p row j = queuedRow b p (take (j - 1) row)
 
 -- whether a sum passes its limit (refusal 7)
 unfoldable pub passes : Places → Bool

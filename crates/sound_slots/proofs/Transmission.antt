@@ -28,7 +28,7 @@ use Rattle.rules.specs.declared.WireRow.{WireRow}
 use Rattle.listlaws.specs.Lists.{each, eachPair, onlyIf}
 use Rattle.rules.specs.Limits.{between, withinLimits}
 use Rattle.rules.specs.Hearing.{wordsOf, countsOf}
-use Rattle.rules.specs.Queueing.{placesAfter, immediateOf, placesOf, passes}
+use Rattle.rules.specs.Queueing.{placesBefore, placesAfter, immediateOf, placesOf, passes}
 use Rattle.rules.specs.declared.Turn.{Turn}
 use Rattle.rules.specs.declared.Turn.the-variants.{Urgent as UrgentTurn, Long as LongTurn, Resolve as ResolveTurn, Open as OpenTurn}
 use Rattle.rules.specs.Turns.{turnOf}
@@ -50,7 +50,7 @@ use Rattle.rules.proofs.SlotStep.{and-both}
 use Rattle.rules.proofs.LimitLaws.{within-limits, station-in}
 use Rattle.channel_rules.proofs.SoundTests.{sound-tests}
 use Rattle.channel_rules.proofs.SoundMeans.{not-eq, sound-says}
-use Rattle.rules.proofs.Settled.{standsAlone, standsAfter, placesBefore, feedbackAt, settledBy, settledOf, requesting, conditionAfter, segmentSent, stationAfter, wentBy, step-is}
+use Rattle.rules.proofs.Settled.{standsAlone, standsAfter, feedbackAt, settledBy, settledOf, requesting, conditionAfter, segmentSent, stationAfter, wentBy, step-is}
 use Rattle.rules.specs.Stepping.{requestMinislot, stepOf}
 use Rattle.rules.proofs.Refusals.{through-only, test-passed}
 use Rattle.rules.proofs.Walking.{row-fits}
