@@ -1,12 +1,12 @@
 #!/usr/bin/env python3
-"""What crates/channel_run must write, made from the paper's sentences and not from the Rattle programs.
+"""What crates/channel_run must write, made from the papers' sentences and not from the Rattle programs.
 
 A table is a list of boxes (station.py) beside a wire. It is sound if what the paper says of it holds place by place. A slot is each box's own slot on
-the row that the wire has; the requests that the boxes answer make the new row.
+the row that the wire has; the requests that the boxes answer make the new row. In an owned slot the box that the turn names sends its stream.
 """
 import copy
 
-from station import WORDS, Refusal, blank, fits, nothing, offer, put, put_record, read, slot
+from station import FREE, NOBODY, WORDS, Refusal, blank, fits, nothing, offer, owned_text, owners_of, owning, put, put_record, read, slot
 
 
 # ---- sound tables
@@ -35,7 +35,9 @@ def sound(boxes, wire):
     if len({box["index"] for box in boxes}) < len(boxes) or not all(fits(box) for box in boxes):
         return False
     first = boxes[0]
-    if any(box[name] != first[name] for box in boxes for name in ("m", "n", "next", "H", "N", "RQ", "Open")):
+    if any(box[name] != first[name] for box in boxes for name in ("m", "n", "next", "H", "N", "RQ", "Open", "calendar", "position")):
+        return False
+    if any(owner not in [box["index"] for box in boxes] for owner in owners_of(first["calendar"])):
         return False
     if places_of(boxes, "urgent") != list(range(1, first["H"] + 1)) or places_of(boxes, "long") != list(range(1, first["N"] + 1)):
         return False
@@ -112,8 +114,8 @@ def channel_slot(ch, picks):
     after.wire[g - 1] = [minislot_of(after.boxes, g, j) for j in range(1, 9)]
     for (answer, box), pick in zip(results, picks):
         assert answer[1] in (0, pick)
-    sent = [(box["index"], answer[2]) for answer, box in results if answer[2]]
     turn = results[0][0][0]
+    sent = [(box["index"], answer[2]) for answer, box in results if answer[2] or turn == "owned,%d" % box["index"]]
     heard = [read(word, count) for word, count in row]
     weight = sum({"empty": 0, "single": 1, "collide": 2}[what[0]] for what in heard)
     delivered = sum(what[0] == "single" and what[2] == 1 for what in heard) if first["Open"][g - 1] and weight == 1 else 0
@@ -121,6 +123,15 @@ def channel_slot(ch, picks):
         delivered += len(sent)
     lone = sent[0] if len(sent) == 1 else (0, 0)
     return (turn, len(sent), *lone, delivered), after
+
+
+def channel_calendar(ch, entries):
+    ch.check()
+    if any(entry not in [FREE] + [box["index"] for box in ch.boxes] for entry in entries):
+        raise Refusal(20)
+    if FREE not in entries:
+        raise Refusal(21)
+    return Channel([dict(box, calendar=list(entries)) for box in ch.boxes], copy.deepcopy(ch.wire))
 
 
 # ---- what is written
@@ -161,6 +172,23 @@ def slotted(ch, *picks):
     try:
         answer, ch = channel_slot(ch, picks)
         put("went", *answer)
+    except Refusal as refused:
+        put("refused", refused)
+    put_table(ch)
+    return ch
+
+
+def show(ch):
+    """The position and the calendar of each box."""
+    for box in ch.boxes:
+        print(owned_text(box["position"], box["calendar"]))
+
+
+def calendared(ch, entries):
+    put("calendar", *entries)
+    try:
+        ch = channel_calendar(ch, entries)
+        put("set")
     except Refusal as refused:
         put("refused", refused)
     put_table(ch)
@@ -284,6 +312,119 @@ def from_the_start():
         ch = slotted(ch, *picks)
 
 
+# ---- calendars
+
+EACH = [100 * (p % 6 + 1) for p in range(24)]  # no position free
+MOST = EACH[:11] + [FREE] + EACH[12:]
+
+
+def everywhere(ch, position, entries):
+    """The same boxes, all with this position and calendar, whatever they are."""
+    return Channel([dict(box, position=position, calendar=list(entries)) for box in ch.boxes], ch.wire)
+
+
+def calendars_set():
+    """1, 23 and 0 owned positions, again, and at a position that is not the first; of 64 boxes."""
+    ch = base()
+    show(ch)
+    for entries in (owning(p5=600), MOST, NOBODY, owning(p0=100, p23=600)):
+        ch = calendared(ch, entries)
+        show(ch)
+    ch = slot6(ch, 1, 2, 1)
+    show(ch)
+    ch = calendared(ch, owning(p0=600, p1=200))
+    show(ch)
+    ch = slot6(ch, 2, 1, 1)
+    show(ch)
+    ch = begun(EMPTY_TABLE.with_count(64), 8, 8, upward(100, 64))
+    ch = calendared(ch, owning(p0=100, p23=163))
+    show(ch)
+    calendared(ch, owning(p0=99))
+
+
+def calendars_refused():
+    """14, 20 and 21, each where a later number would come."""
+    ch = everywhere(base(), 9, owning(p5=600))
+    for entries in (
+        owning(p0=50), owning(p23=50), owning(p3=0), owning(p4=924), owning(p5=65534), owning(p5=600, p6=601), EACH[:23] + [50], [924] + EACH[1:],
+        EACH, [600] * 24,
+    ):
+        calendared(ch, entries)
+    show(ch)
+    calendared(ch.with_count(0), EACH[:23] + [50])
+    calendared(ch.with_count(65), EACH[:23] + [50])
+
+
+def unsound_calendars():
+    """18 by the calendar or the position, tried by each call where a later number would come; and 18 by other clauses, of a calendar set."""
+    def tried(ch):
+        show(ch)
+        offered(ch, 50, 0)
+        slotted(ch)
+        calendared(ch, EACH[:23] + [50])
+
+    for position, entries in ((24, NOBODY), (255, NOBODY), (0, owning(p7=50)), (7, owning(p23=0)), (0, owning(p7=924)), (3, EACH)):
+        tried(everywhere(base(), position, entries))
+    shared = owning(p7=600, p9=100)
+    ch = everywhere(base(), 7, shared)
+    for k, position, entries in (
+        (5, 7, NOBODY), (0, 7, NOBODY), (5, 7, owning(p7=600, p9=200)), (3, 7, owning(p7=600, p10=100)), (5, 7, owning(p7=600, p9=100, p23=50)),
+        (5, 8, shared), (0, 6, shared), (5, 24, shared), (2, 7, owning(p7=600, p9=924)), (4, 7, EACH),
+    ):
+        tried(ch.with_box(k, dict(ch.boxes[k], position=position, calendar=entries)))
+    ch = base()
+    for other in (
+        ch.with_box(5, box_of(200, ("free",))), ch.with_box(5, box_of(600, ("free",), H=2)), ch.with_box(0, box_of(100, ("free",))),
+        ch.with_box(3, box_of(400, ("free",))), ch.with_minislot(1, 0, 0, 0),
+    ):
+        calendared(other, NOBODY)
+
+
+def streams_served():
+    """Each box's stream in its turn, round the end of the calendar, while the messages go on; then the calendar is changed, and cleared."""
+    ch = everywhere(base(), 21, owning(p21=100, p22=200, p23=300, p0=400, p1=500, p2=600))
+    for picks in ((1, 2, 1), (2, 1, 1), (1, 1, 2)):
+        ch = slot6(ch, *picks)
+    ch = offered(ch, 600, 48)
+    for picks in ((2, 2, 1), (1, 2, 2), (1, 1, 1), (2, 1, 2)):
+        ch = slot6(ch, *picks)
+    show(ch)
+    ch = calendared(ch, owning(p4=600, p6=600, p8=600))
+    for picks in ((1, 2, 1), (2, 1, 1), (1, 1, 2), (1, 1, 2)):
+        ch = slot6(ch, *picks)
+    ch = slot6(ch, 0, 1, 1)
+    ch = slotted(ch, 1)
+    ch = slot6(ch, 1, 2, 2)
+    show(ch)
+    ch = calendared(ch, NOBODY)
+    for picks in ((1, 1, 1), (2, 1, 2), (1, 1, 1), (2, 2, 2), (1, 1, 1), (1, 1, 1)):
+        ch = slot6(ch, *picks)
+    show(ch)
+
+
+def streams_from_the_start():
+    """A calendar set between an open slot and its row, whose success stays; requests made in an owned slot, which send no data and have no success."""
+    ch = begun(EMPTY_TABLE.with_count(2), 2, 1, [7, 8])
+    ch = offered(ch, 7, 1)
+    ch = slotted(ch, 1, 1)
+    ch = calendared(ch, owning(p1=8, p2=7, p4=7))
+    ch = slotted(ch, 1, 1)
+    ch = offered(ch, 7, 1)
+    ch = slotted(ch, 1, 1)
+    ch = offered(ch, 8, 97)
+    ch = slotted(ch, 1, 2)
+    for picks in ((1, 1), (1, 1), (1, 1), (1, 1)):
+        ch = slotted(ch, *picks)
+    ch = calendared(ch, owning(p8=8, p9=8))
+    ch = offered(ch, 7, 1)
+    ch = offered(ch, 8, 1)
+    ch = slotted(ch, 2, 1)
+    ch = calendared(ch, NOBODY)
+    for picks in ((1, 1), (1, 1), (1, 1)):
+        ch = slotted(ch, *picks)
+    show(ch)
+
+
 starts_refused()
 starts()
 offers()
@@ -291,3 +432,8 @@ slots_refused()
 unsound_tables()
 served()
 from_the_start()
+calendars_set()
+calendars_refused()
+unsound_calendars()
+streams_served()
+streams_from_the_start()

@@ -1,10 +1,12 @@
 #!/usr/bin/env python3
-"""What crates/listener_run must write: the listener of paper 01, written from the paper's text alone.
+"""What crates/listener_run must write: the listener of paper 01 with the calendar of paper 02's T-02, written from the papers' text alone.
 
     python3 independent/listener.py > crates/listener_run/stdout
 """
 
 LIMIT_H, LIMIT_N, LIMIT_RQ = 4095, 65535, 4095
+POSITIONS = 24
+FREE = 65535  # the entry of a position without an owner
 
 
 class Refusal(Exception):
@@ -12,16 +14,36 @@ class Refusal(Exception):
         self.number = number
 
 
+def owners_number(entries):
+    """What refuses a calendar's entries: 20, an owner that is no index; 21, no position free; 0, nothing."""
+    owners = [entry for entry in entries if entry != FREE]
+    if any(owner > 923 for owner in owners):
+        return 20
+    return 21 if len(owners) == POSITIONS else 0
+
+
 class Record:
-    """The counters: m, n, the next group, H, N, and RQ and Open for groups 1 to 8."""
+    """The counters: m, n, the next group, H, N, and RQ and Open for groups 1 to 8; the calendar's entries and the position of the coming slot.
+
+    Where the calendar was given, what is written of the record has its position and who owns which (`shown`).
+    """
 
     def __init__(self, m, n, group, h, long, rq, is_open):
         self.m, self.n, self.group, self.h, self.long = m, n, group, h, long
         self.rq = dict(zip(range(1, 9), rq))
         self.open = dict(zip(range(1, 9), is_open))
+        self.calendar, self.position, self.shown = [FREE] * POSITIONS, 0, False
 
     def copy(self):
-        return Record(self.m, self.n, self.group, self.h, self.long, self.rq.values(), self.open.values())
+        other = Record(self.m, self.n, self.group, self.h, self.long, self.rq.values(), self.open.values())
+        other.calendar, other.position, other.shown = list(self.calendar), self.position, self.shown
+        return other
+
+    def at(self, position, entries):
+        """The same with this position and calendar, whatever they are."""
+        other = self.copy()
+        other.calendar, other.position, other.shown = list(entries), position, True
+        return other
 
     def within_limits(self):
         if not (2 <= self.m <= 8 and 1 <= self.n <= 8 and 1 <= self.group <= self.n):
@@ -34,12 +56,19 @@ class Record:
                     return False
             elif self.rq[g] != 0 or not self.open[g]:
                 return False
-        return True
+        return self.position < POSITIONS and owners_number(self.calendar) == 0
 
-    def __str__(self):
+    def counters(self):
         return ' m,%d n,%d next,%d H,%d N,%d RQ,%s Open,%s' % (
             self.m, self.n, self.group, self.h, self.long,
             ','.join(str(x) for x in self.rq.values()), ','.join('1' if x else '0' for x in self.open.values()))
+
+    def owned(self):
+        owners = ['%d:%d' % (place, owner) for place, owner in enumerate(self.calendar) if owner != FREE]
+        return ' position,%d %s' % (self.position, ','.join(['owned', *owners]))
+
+    def __str__(self):
+        return self.counters() + (self.owned() if self.shown else '')
 
 
 def start(m, n):
@@ -86,14 +115,27 @@ def listen(record, words, counts):
     if h > LIMIT_H or long > LIMIT_N or rq > LIMIT_RQ:
         raise Refusal(7)
     # step 2
-    turn = 'u' if h > 0 else 'l' if long > 0 else 'r' if rq > 0 else 'o'
+    owner = record.calendar[record.position]
+    if owner != FREE:
+        turn = 'w,%d' % owner
+    else:
+        turn = 'u' if h > 0 else 'l' if long > 0 else 'r' if rq > 0 else 'o'
     record.open[g] = turn == 'o'
     # steps 4 and 5
     record.h = h - 1 if turn == 'u' else h
     record.long = long - 1 if turn == 'l' else long
     record.rq[g] = rq - 1 if rq > 0 else 0
     record.group = g % record.n + 1
+    record.position = (record.position + 1) % POSITIONS
     return turn
+
+
+def set_calendar(record, entries):
+    """The calendar is replaced whole, unless it is refused; the position is not touched."""
+    number = 18 if not record.within_limits() else owners_number(entries)
+    if number:
+        raise Refusal(number)
+    record.calendar = list(entries)
 
 
 def listened(record, words, counts):
@@ -119,13 +161,27 @@ def start_line(m, n):
     print('start,%d,%d%s%s' % (m, n, answer, record))
 
 
-def before(record, words, counts):
-    print('before%s' % record)
+def listed(word, numbers):
+    return ','.join([word, *[str(x) for x in numbers]])
+
+
+def begins(record):
+    print('before%s' % record.counters())
+    if record.shown:
+        print('position,%d %s' % (record.position, listed('owners', record.calendar)))
+
+
+def row(words, counts):
     print('row words%s counts%s' % (''.join(',%d' % w for w in words), ''.join(',%d' % c for c in counts)))
 
 
 def case(record, words, counts):
-    before(record, words, counts)
+    begins(record)
+    return heard(record, words, counts)
+
+
+def heard(record, words, counts):
+    row(words, counts)
     answer, after = listened(record, words, counts)
     for way in ('value', 'lent'):
         print('%s%s%s' % (way, answer, after))
@@ -133,7 +189,12 @@ def case(record, words, counts):
 
 
 def case_at(record, words, counts, place):
-    before(record, words, counts)
+    begins(record)
+    return heard_at(record, words, counts, place)
+
+
+def heard_at(record, words, counts, place):
+    row(words, counts)
     answer, after = listened_at(record, words, counts, place)
     print('place,%d%s%s' % (place, answer, after))
     return after
@@ -155,18 +216,18 @@ def recording(p):
     return [w for w, _ in minislots], [c for _, c in minislots]
 
 
-def rows(way, n, m, words, counts, place):
-    record = start(m, n)
+def rows(way, record, words, counts, place):
+    record, m = record.copy(), record.m
     for i in range(40):
         at = place + i * m
         answer, record = listened(record, words[at:at + m], counts[at:at + m])
         print('%s%s%s' % (way, answer, record))
 
 
-def ways(n, m, words, counts):
-    rows('value', n, m, words, counts, 0)
-    rows('place', n, m, words, counts, 7)
-    rows('lent', n, m, words, counts, 160)
+def ways(record, words, counts):
+    rows('value', record, words, counts, 0)
+    rows('place', record, words, counts, 7)
+    rows('lent', record, words, counts, 160)
 
 
 def plain(m, n, g, h, long):
@@ -180,6 +241,132 @@ def arrays(n, rq, is_open):
 def good_row(record):
     case(record, [63, 95], [1, 3])
     case_at(record, [63, 63, 95, 4096], [0, 1, 3, 0], 1)
+
+
+# ---- calendars
+
+def entries(owned):
+    """The calendar in which these positions have these owners."""
+    return [owned.get(position, FREE) for position in range(POSITIONS)]
+
+
+ONE, MOST, NONE = entries({5: 7}), entries({p: 900 + p for p in range(POSITIONS) if p != 11}), entries({})
+SOME = entries({0: 0, 5: 7, 6: 7, 22: 41, 23: 923})
+FULL = [7] * POSITIONS
+
+
+def calendar_case(record, calendar):
+    begins(record)
+    return calendar_set(record, calendar)
+
+
+def calendar_set(record, calendar):
+    """A calendar set: its entries, the answer and the record after."""
+    after = record.at(record.position, record.calendar)
+    try:
+        set_calendar(after, calendar)
+        answer = ' set'
+    except Refusal as refusal:
+        answer = ' refused,%d' % refusal.number
+    print(listed('calendar', calendar) + answer + str(after))
+    return after
+
+
+def in_two_groups(g, h, long, rq, is_open):
+    """A record with these lengths and marks."""
+    return Record(2, 2, g, h, long, rq + [0] * 6, is_open + [True] * 6)
+
+
+def settings():
+    """A calendar set: what goes through, 20, 21, and 18 before them."""
+    record = start(2, 1)
+    for calendar in (ONE, MOST, NONE, SOME, ONE):
+        record = calendar_case(record, calendar)
+    record = in_two_groups(2, 5, 7, [1, 2], [False, True])
+    calendar_case(record, MOST)
+    record = record.at(17, SOME)
+    begins(record)
+    for calendar in (
+        NONE, ONE, MOST, SOME, entries({0: 923, 17: 0}),
+        entries({0: 924}), entries({23: 924}), entries({11: 65534}), entries({4: 4096, 5: 7}), FULL[:12] + [924] + FULL[13:], FULL[:23] + [65534],
+        FULL, list(range(POSITIONS)), [923] * POSITIONS,
+    ):
+        calendar_set(record, calendar)
+    idle = start(2, 1)
+    for outside in (
+        plain(2, 1, 1, 4096, 0).at(3, ONE), idle.at(24, ONE), idle.at(255, NONE), idle.at(0, entries({23: 924})), idle.at(7, entries({0: 65534})),
+        idle.at(0, FULL), idle.at(23, list(range(POSITIONS))),
+    ):
+        begins(outside)
+        for calendar in (ONE, entries({0: 924}), FULL):
+            calendar_set(outside, calendar)
+        heard(outside, [63, 95], [1, 3])
+        heard_at(outside, [63, 63, 95, 4096], [0, 1, 3, 0], 1)
+    for inside in (idle.at(23, ONE), idle.at(23, SOME), idle.at(0, entries({23: 923})), idle.at(11, MOST)):
+        begins(inside)
+        calendar_set(inside, NONE)
+        heard(inside, [63, 95], [1, 3])
+        heard_at(inside, [63, 63, 95, 4096], [0, 1, 3, 0], 1)
+
+
+def owned_slots():
+    """Rows heard at a position that has an owner, with each queue empty and not, after an open slot and another."""
+    for h, long, rq in ((0, 0, 0), (2, 0, 0), (0, 5, 0), (0, 0, 2), (2, 5, 2)):
+        for is_open in (True, False):
+            record = in_two_groups(1, h, long, [rq, 1], [is_open, True]).at(5, SOME)
+            begins(record)
+            for words, counts in (([0, 0], [0, 0]), ([0, 63], [0, 1]), ([63, 127], [1, 0])):
+                heard(record, words, counts)
+            heard_at(record, [4096, 0, 95, 0], [0, 0, 3, 0], 1)
+    # the last position and the first, in each group; a free one beside them
+    for position in (22, 23, 0, 1):
+        for group in (1, 2):
+            case(in_two_groups(group, 1, 1, [1, 1], [True, True]).at(position, SOME), [63, 0], [1, 0])
+    # at the limits: 7 as ever; what is just within does not fall, but RQ does
+    for h, long, rq, rows_heard in (
+        (4095, 0, 0, (([63, 0], [1, 0]), ([63, 95], [1, 1]))), (4093, 0, 0, (([63, 95], [1, 1]),)), (0, 65533, 0, (([63, 0], [2, 0]), ([63, 0], [3, 0]))),
+        (0, 0, 4095, (([127, 0], [0, 0]), ([0, 0], [0, 0]))), (0, 0, 4094, (([127, 0], [0, 0]),)),
+    ):
+        record = in_two_groups(1, h, long, [rq, 0], [True, True]).at(6, SOME)
+        begins(record)
+        for words, counts in rows_heard:
+            heard(record, words, counts)
+    # a refused row leaves the position, whatever refuses it
+    for position in (5, 7, 23):
+        record = in_two_groups(1, 4095, 0, [0, 0], [True, True]).at(position, SOME)
+        begins(record)
+        for words, counts in (([0], [0]), ([4096, 0], [0, 0]), ([0, 63], [0, 0]), ([0, 0], [0, 1]), ([63, 95], [1, 1])):
+            heard(record, words, counts)
+        heard_at(record, [63, 95, 0], [1, 1, 0], 2)
+
+
+def streams():
+    """Rows one after the other under calendars."""
+    # round the end of the calendar, a refused row on the way
+    record = start(2, 1).at(21, SOME)
+    for words, counts in (([63, 95], [1, 1]), ([0, 0], [0, 0]), ([4096, 0], [0, 0]), ([63, 0], [1, 0]), ([127, 0], [3, 0]), ([63, 95], [1, 2]), ([0, 0], [0, 0])):
+        record = case(record, words, counts)
+    # a request of one slot made in an owned slot is no immediate success: its row is heard with Open no
+    record = case(start(2, 1).at(6, SOME), [0, 0], [0, 0])
+    record = case(record, [63, 0], [1, 0])
+    case(record, [0, 0], [0, 0])
+    # a calendar set between an open slot and its row leaves the immediate success of that row; the owned slot after it has none
+    record = case(start(2, 1).at(0, NONE), [0, 0], [0, 0])
+    record = calendar_case(record, entries({1: 7, 2: 8}))
+    record = case(record, [0, 95], [0, 1])
+    record = case(record, [0, 95], [0, 1])
+    record = calendar_case(record, NONE)
+    record = case(record, [0, 0], [0, 0])
+    case(record, [63, 0], [1, 0])
+    # an owned slot leaves the other group's mark
+    record = start(2, 2).at(4, ONE)
+    for words, counts in (([0, 0], [0, 0]), ([0, 0], [0, 0]), ([63, 0], [1, 0]), ([95, 0], [1, 0]), ([0, 0], [0, 0])):
+        record = case(record, words, counts)
+    # long ones
+    busy, sparse = recording(503), recording(1499)
+    for record, tape in ((start(2, 1).at(0, MOST), busy), (start(3, 2).at(0, SOME), busy), (start(8, 8).at(0, entries({p: 13 * p for p in range(0, 24, 3)})), sparse)):
+        begins(record)
+        ways(record, *tape)
 
 
 def main():
@@ -197,9 +384,9 @@ def main():
         record = case_at(record, words, counts, k)
 
     busy, sparse = recording(503), recording(1499)
-    ways(1, 2, *busy)
-    ways(2, 3, *busy)
-    ways(8, 8, *sparse)
+    ways(start(2, 1), *busy)
+    ways(start(3, 2), *busy)
+    ways(start(8, 8), *sparse)
 
     # 18
     for m, n, g, h in ((0, 1, 1, 0), (1, 1, 1, 0), (9, 1, 1, 0), (255, 1, 1, 0), (2, 0, 1, 0), (2, 0, 0, 0), (2, 9, 1, 0), (2, 255, 1, 0),
@@ -279,6 +466,10 @@ def main():
         record = arrays(2, [r1, r2] + [0] * 6, [True] * 8)
         case(record, words, counts)
         places(record, words, counts)
+
+    settings()
+    owned_slots()
+    streams()
 
 
 if __name__ == '__main__':

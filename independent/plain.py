@@ -1,8 +1,10 @@
-"""The plain channel of the paper, from its sentences and not from the Rattle programs: queues of messages, fed only a start and each call's arguments.
+"""The plain channel of the papers, from their sentences and not from the Rattle programs: queues of messages, fed only a start and each call's arguments.
 
-A message is a dict with its box, its slots and how many of them were delivered. Conditions, counters and the wire are read off the queues.
+A message is a dict with its box, its slots and how many of them were delivered. Conditions, counters and the wire are read off the queues. The calendar is
+kept as it was set, and beside it how many slots there were since the start: their remainder by 24 is the position.
 """
 WORDS = [w for w in range(4096) if format(w, "b").count("1") == 6]
+FREE = 65535  # the entry of a position without an owner
 
 
 class Refusal(Exception):
@@ -27,6 +29,7 @@ class Plain:
         self.resolution = {g: [] for g in range(1, n + 1)}
         self.history = []
         self.mine = [None] * boxes  # the message of each box that is not all delivered
+        self.entries, self.slots = [FREE] * 24, 0
 
     def deliver(self, message, segment):
         self.history.append((message, segment))
@@ -46,6 +49,13 @@ class Plain:
         self.fresh.append(message)
         self.mine[box] = message
         return message["slots"]
+
+    def calendar(self, *entries):
+        if any(entry != FREE and entry not in self.indexes for entry in entries):
+            raise Refusal(20)
+        if FREE not in entries:
+            raise Refusal(21)
+        self.entries = list(entries)
 
     def slot(self, picks):
         """The turn, the data senders, a lone one's index and segment, the slots delivered."""
@@ -75,7 +85,8 @@ class Plain:
         self.urgent, self.long, self.resolution[g] = H, N, RQ
         for message in at_once:
             self.deliver(message, 1)
-        turn = "urgent" if H else "long" if N else "resolve" if RQ else "open"
+        owner = self.entries[self.slots % 24]
+        turn = "owned" if owner != FREE else "urgent" if H else "long" if N else "resolve" if RQ else "open"
         self.open[g] = turn == "open"
         if RQ:
             ask = RQ.pop(0)
@@ -93,6 +104,9 @@ class Plain:
         if turn == "open":
             sent = [(message, 1) for message in ask if message["slots"] == 1]
         self.group = g % self.n + 1
+        self.slots += 1
+        if turn == "owned":  # the owner's stream, and no message
+            return (turn, 1, owner, 0, len(self.history) - before)
         lone = (self.indexes[sent[0][0]["box"]], sent[0][1]) if len(sent) == 1 else (0, 0)
         return (turn, len(sent)) + lone + (len(self.history) - before,)
 

@@ -11,15 +11,17 @@
 """
 import sys
 
-from plain import Plain, Refusal
+from plain import FREE, Plain, Refusal
 from recordings import command, lines, numbers_of, printed, zeros
 
 HEADER = b"call,kind,group,turn,senders,index,segment,delivered,H,N,RQ\r\n"
 LONGEST = 512
 # the largest number that each parameter holds; the bytes of an offer are any number of five digits
 MINISLOTS = GROUPS = PICKED = 255
-INDEX = 65535
+INDEX = ENTRY = 65535
 BYTES = 99999
+POSITIONS = 24
+LETTERS = {"owned": "w", "urgent": "u", "long": "l", "resolve": "r", "open": "o"}
 
 
 def line(*values):
@@ -54,6 +56,8 @@ class Rehearsal:
             call, numbers = self.offer, held(rest, [INDEX, BYTES])
         elif word == b"slot":
             call, numbers = self.slot, held(rest, [PICKED] * len(rest))
+        elif word == b"calendar":
+            call, numbers = self.calendar, held(rest, [ENTRY] * POSITIONS)
         elif word == b"show":
             call, numbers = self.show, held(rest, [])
         else:
@@ -74,13 +78,17 @@ class Rehearsal:
         group = self.channel.group
         turn, *values = self.channel.slot(picks)
         _, _, _, H, N, *rest = self.channel.counters()
-        return self.line("slot", group, turn[0], *values, H, N, rest[group - 1])
+        return self.line("slot", group, LETTERS[turn], *values, H, N, rest[group - 1])
+
+    def calendar(self, *entries):
+        self.channel.calendar(*entries)
+        return self.line("calendar")
 
     def show(self):
         channel = self.channel
         m, n, following, H, N, *rest = channel.counters()
         resolution, marks = rest[:8], rest[8:]
-        out = [self.line("counters", m, n, following, H, N)]
+        out = [self.line("counters", m, n, following, H, N), self.line("owners", channel.slots % POSITIONS, *channel.entries)]
         out += [self.line("group", g, resolution[g - 1], "yes" if marks[g - 1] else "no") for g in range(1, n + 1)]
         out += [self.line("message", index, *condition) for index, condition in zip(channel.indexes, channel.conditions())]
         for g, row in enumerate(channel.wire()[:n], start=1):
@@ -94,7 +102,7 @@ def rehearse(data):
 
 # ---- what the lists are made of
 
-ARRIVES, KIND, SIZE, PICK, BAD, BAD_KIND = range(1, 7)
+ARRIVES, KIND, SIZE, PICK, BAD, BAD_KIND, SET, SET_KIND, OWNED, OWNER = range(1, 11)
 
 
 def scrambled(x):
@@ -116,6 +124,15 @@ def slot(picks):
     return ",".join(["slot", *[str(p) for p in picks]])
 
 
+def calendar(owned):
+    """The calendar in which these positions have these owners."""
+    return entries_of([owned.get(p, FREE) for p in range(POSITIONS)])
+
+
+def entries_of(entries):
+    return ",".join(["calendar", *[str(x) for x in entries]])
+
+
 def shown(first, *calls):
     """A list with a show after its start and after each call."""
     return lines(first, "show", *[text for call in calls for text in (call, "show")])
@@ -127,6 +144,7 @@ def amid(record):
 
 
 ONE, TWO = "2,1,7", "2,1,7,8"
+CLEARED = calendar({})
 # 64 stations, their places in a square of eight by eight: those of a column pick alike in the one, those of a row in the other
 MANY = [911 - 13 * k for k in range(64)]
 BY_COLUMN = slot(k % 8 + 1 for k in range(64))
@@ -138,8 +156,25 @@ def settled(bytes):
     return lines(start(8, 1, MANY), *["offer,%d,%d" % (index, bytes) for index in MANY], BY_COLUMN, "show", BY_ROW, "show", *[BY_ROW] * 8, "show", BY_ROW, "show")
 
 
-def driven(stations, m, n, slots):
-    """Offers, bad calls and slots by an arithmetic rule: first seldom an offer, then more of them, then many. A show now and then, before a slot or after it."""
+def drawn_calendar(s, indexes):
+    """A calendar by the same rule: no owner, few, many, all but one; one in four is refused, by an owner that is no station or with no position free."""
+    kind = draw(s, 0, SET_KIND, 8)
+    rarity = [1, 12, 4, 2, 1, 4, 1, 2][kind]
+    entries = [indexes[draw(s, p, OWNER, len(indexes))] if draw(s, p, OWNED, rarity) == 0 else FREE for p in range(POSITIONS)]
+    place = draw(s, 0, OWNER, POSITIONS)
+    if kind == 0:
+        entries = [FREE] * POSITIONS
+    elif kind == 4:
+        entries[place] = FREE
+    elif kind == 5:
+        entries[place] = [924, 65534, 922][place % 3]
+    return entries_of(entries)
+
+
+def driven(stations, m, n, slots, calendars=False):
+    """Offers, bad calls and slots by an arithmetic rule: first seldom an offer, then more of them, then many. A show now and then, before a slot or after it.
+
+    With calendars, one is set before some of the slots."""
     indexes = [(331 * k + n) % 924 for k in range(stations)]
     calls = [start(m, n, indexes)]
     apart = 24
@@ -157,6 +192,8 @@ def driven(stations, m, n, slots):
                 "offer,923,1", "offer,%d,0" % indexes[k], "offer,%d,12241" % indexes[k], slot(picks), slot(picks[:-2]),
                 slot(picks[:k] + [0] + picks[k + 1:-1]), slot(picks[:k] + [m + 1] + picks[k + 1:-1]),
             ][kind])
+        if calendars and draw(s, n, SET, 8) == 0:
+            calls.append(drawn_calendar(s, indexes))
         if s % apart == 0:
             calls.append("show")
         calls.append(slot(picks[:-1]))
@@ -229,6 +266,79 @@ def walks():
     yield "sixty_four_in_eight_groups", lines(
         start(8, 8, MANY), "show", *["offer,%d,%d" % (index, 1 + 97 * k) for k, index in enumerate(MANY[:16])], BY_ROW, *["offer,%d,1" % index for index in MANY[16:40]],
         BY_ROW, BY_COLUMN, *["offer,%d,255" % index for index in MANY[40:]], BY_COLUMN, "show", *[BY_ROW, BY_COLUMN] * 12, "show")
+
+
+def streams():
+    """Owned slots: calendars set, changed and cleared, and an owner whose message is in each condition."""
+    yield "example_of_streams", lines(
+        "2,1,7,8,9", calendar({1: 9, 2: 9, 4: 9}), "offer,7,48", "slot,1,1,1", "slot,1,1,1", "offer,7,1", "offer,8,97", "slot,1,2,1", "show", "slot,1,1,1", "slot,1,1,1", "slot,1,1,1",
+        CLEARED, "slot,1,1,1", "slot,1,1,1", "show")
+    yield "calendar_of_one_position", shown(TWO, calendar({2: 8}), "offer,7,48", "slot,1,1", "slot,1,1", "offer,7,97", *["slot,1,1"] * 6)
+    yield "calendar_of_23_positions", lines(
+        TWO, calendar({p: 7 + p % 2 for p in range(POSITIONS) if p != 11}), "offer,7,48", "offer,8,97", "slot,1,2", "slot,1,1", "show",
+        *["slot,1,1"] * 10, "show", *["slot,1,1"] * 24, "show", *["slot,1,1"] * 48, "show")
+    yield "calendar_of_no_owner", shown(TWO, CLEARED, "offer,7,1", "offer,8,48", "slot,2,1", CLEARED, "slot,1,1", "slot,1,1", "slot,1,1")
+    yield "calendar_set_again", shown(
+        TWO, calendar({0: 7, 1: 7, 5: 8}), "slot,1,1", calendar({2: 8, 3: 7}), "slot,1,1", "slot,1,1", calendar({3: 8}), "slot,1,1", "slot,1,1", "slot,1,1")
+    yield "calendar_set_twice", shown(TWO, calendar({0: 7}), calendar({0: 8}), "slot,1,1", "slot,1,1")
+    yield "calendar_cleared", shown(TWO, calendar({0: 7, 1: 7, 2: 7, 3: 7}), "offer,8,1", "slot,1,1", "slot,1,1", CLEARED, "slot,1,1", "offer,8,1", "slot,1,1", "slot,1,1")
+    yield "round_the_end_of_the_calendar", lines(TWO, calendar({0: 8, 22: 7, 23: 7}), *["slot,1,1"] * 23, "show", "slot,1,1", "show", "slot,1,1", "show", *["slot,1,1"] * 26, "show")
+    yield "a_calendar_set_late", lines(ONE, *["slot,1"] * 60, "show", calendar({11: 7, 12: 7, 13: 7}), "slot,1", "show", "slot,1", "slot,1", *["slot,1"] * 22, "show")
+    yield "refused_calls_leave_the_position", shown(
+        TWO, calendar({1: 7, 2: 8}), "slot,1,1", "slot,1", "slot,0,1", "slot,1,3", "offer,9,1", "offer,8,0", "slot,1,1", "slot", calendar({2: 9}), "slot,1,1", "slot,1,1")
+    yield "an_owner_that_is_free", shown(TWO, calendar({0: 7, 1: 7}), *["slot,1,1"] * 3)
+    yield "an_owner_that_is_fresh", shown(TWO, calendar({0: 7}), "offer,7,1", *["slot,1,1"] * 3)
+    yield "an_owner_that_is_fresh_and_long", shown(TWO, calendar({0: 7}), "offer,7,97", "slot,2,1", *["slot,1,1"] * 4)
+    yield "an_owner_that_must_wait_to_ask", shown("2,1,7,8,9", calendar({1: 9, 2: 9}), "offer,7,1", "offer,8,1", "slot,1,1,1", "offer,9,1", "slot,1,2,1", "slot,1,1,1", *["slot,1,1,2"] * 4)
+    yield "an_owner_that_is_asked", shown("2,2,7,8", calendar({1: 7}), "offer,7,49", *["slot,1,1"] * 6)
+    yield "an_owner_that_is_heard_alone", shown(TWO, calendar({1: 7}), "offer,7,48", *["slot,1,1"] * 3)
+    yield "an_owner_that_is_heard_alone_and_long", shown(TWO, calendar({1: 7}), "offer,7,97", *["slot,1,1"] * 6)
+    yield "an_owner_that_is_heard_beside_another", shown(TWO, calendar({1: 7, 2: 8}), "offer,7,48", "offer,8,48", "slot,1,2", *["slot,1,1"] * 5)
+    yield "an_owner_that_collides", shown(TWO, calendar({1: 7, 2: 7}), "offer,7,48", "offer,8,97", "slot,1,1", "slot,2,2", "slot,1,2", *["slot,1,1"] * 5)
+    yield "an_owner_that_is_resolving", shown(
+        "2,1,7,8,9,10", calendar({1: 9, 2: 9}), *["offer,%d,%d" % (i, 10 * i - 50) for i in (7, 8, 9, 10)], "slot,1,1,2,2", "slot,1,2,1,1", "slot,1,1,1,2", *["slot,1,1,1,1"] * 6)
+    yield "an_owner_that_is_urgent", shown("3,1,7,8,9", calendar({1: 8, 3: 8}), "offer,7,1", "offer,8,1", "offer,9,1", "slot,3,1,2", *["slot,1,1,1"] * 6)
+    yield "an_owner_that_is_long", shown(TWO, calendar({2: 8, 3: 8, 5: 7}), "offer,7,97", "offer,8,145", "slot,2,1", *["slot,1,1"] * 10)
+    yield "calendar_between_an_open_slot_and_its_row", shown(TWO, "offer,7,1", "slot,1,1", calendar({1: 8}), "slot,1,1", "slot,1,1")
+    yield "calendar_of_the_sender_before_its_row", shown(TWO, "offer,7,48", "slot,2,1", calendar({1: 7, 2: 7}), "offer,8,1", "slot,1,1", "slot,1,1", "slot,1,1")
+    yield "calendar_between_a_collision_and_its_row", shown(TWO, "offer,7,48", "offer,8,48", "slot,1,1", calendar({1: 8}), "slot,1,2", "slot,1,1", "slot,1,1", "slot,1,1")
+    yield "calendar_cleared_between_an_owned_slot_and_its_row", shown(TWO, calendar({0: 8}), "offer,7,1", "slot,1,1", CLEARED, "slot,1,1", "slot,1,1")
+    yield "requests_of_one_slot_in_an_owned_slot", shown("3,1,7,8,9", calendar({0: 9, 1: 7}), "offer,7,1", "offer,8,48", "slot,1,2,1", *["slot,1,1,1"] * 4)
+    yield "a_lone_request_in_an_owned_slot", shown(TWO, calendar({0: 7, 2: 8}), "offer,7,48", *["slot,1,1"] * 4)
+    yield "a_stream_every_second_slot", lines(
+        "2,1,7,8,9", calendar({p: 9 for p in range(0, POSITIONS, 2)}), "offer,7,960", "offer,8,1", "offer,9,48", "slot,1,2,2", "show", *["slot,1,1,2"] * 60, "show")
+    yield "owned_slots_in_two_groups", shown("2,2,7,8", calendar({0: 7, 3: 8, 4: 8}), "offer,7,1", "slot,1,1", "offer,8,1", "slot,1,2", *["slot,1,1"] * 6)
+    yield "owned_slots_in_eight_groups", lines(
+        "8,8,462,0", calendar({p: 462 * (p % 2) for p in range(3, 19)}), "offer,462,48", "slot,8,1", "offer,0,480", *["slot,1,1"] * 12, "show", *["slot,1,1"] * 16, "show")
+    yield "index_0_owns_all_but_one", lines("2,1,0,7", calendar({p: 0 for p in range(1, POSITIONS)}), "offer,7,1", "offer,0,1", "show", "slot,1,2", *["slot,1,1"] * 25, "show")
+    yield "sixty_four_with_streams", lines(
+        start(8, 1, MANY), calendar({p: MANY[11 * p % 64] for p in range(POSITIONS) if p % 4}), *["offer,%d,%d" % (index, 1 + 61 * (k % 3)) for k, index in enumerate(MANY)],
+        BY_COLUMN, BY_ROW, "show", *[BY_ROW] * 30, "show", calendar({p: MANY[63 - p] for p in range(1, POSITIONS)}), *[BY_ROW] * 30, "show")
+
+
+def calendars():
+    """What a calendar answers, and in which order it is checked."""
+    yield "number_20", lines(
+        TWO, calendar({0: 6}), calendar({23: 9}), calendar({3: 0}), calendar({11: 923}), calendar({1: 7, 2: 8, 3: 9}), "show", "slot,1,1", calendar({0: 7, 1: 8}), "show")
+    yield "number_20_above_923", lines("2,1,923,8", calendar({0: 924}), calendar({23: 924}), calendar({5: 65534}), calendar({5: 1000, 6: 8}), "show", calendar({5: 923}), "show")
+    yield "number_21", lines(TWO, entries_of([7] * 24), entries_of([7, 8] * 12), "show", entries_of([7] * 23 + [FREE]), "show", entries_of([8] * 24), "show", "slot,1,1", "slot,1,1", "show")
+    yield "number_21_of_24_stations", lines(start(2, 1, range(24)), entries_of(range(24)), entries_of([FREE, *range(1, 24)]), "show", entries_of(range(23, -1, -1)), slot([1] * 24), "show")
+    yield "twenty_before_twenty_one", lines(TWO, entries_of([7] * 23 + [9]), entries_of([924] + [8] * 23), entries_of([7] * 12 + [65534] + [8] * 11), entries_of([7] * 24), "show")
+    yield "refused_calendars_between", shown(
+        TWO, calendar({0: 7, 2: 8}), calendar({0: 9}), "slot,1,1", entries_of([7] * 24), "slot,1,1", calendar({0: 924}), "slot,1,1", CLEARED, calendar({3: 6}), "slot,1,1")
+    yield "calendar_with_leading_zeros", lines(TWO, "calendar,00007,008," + ",".join(["65535"] * 22), "show", "slot,1,1", "slot,1,01", "slot,1,1")
+    yield "last_calendar_without_cr_lf", lines(TWO, "slot,1,1") + calendar({1: 7}).encode()
+    free = ["65535"] * 24
+    for name, fields in (
+        ("65536", ["65536", *free[1:]]), ("65536_last", [*free[1:], "65536"]), ("99999", [*free[:12], "99999", *free[13:]]), ("a_letter", [*free[:5], "a", *free[6:]]),
+        ("no_number", [*free[:5], "", *free[6:]]), ("six_digits", [*free[:23], "000007"]), ("a_space", [*free[:23], " 7"]), ("a_minus", ["-1", *free[1:]]), ("a_comma_last", [*free, ""]),
+        ("23_entries", free[1:]), ("25_entries", [*free, "65535"]), ("25_owners", ["7"] * 25), ("no_entry", []), ("one_entry", ["7"]), ("48_entries", free * 2),
+        ("23_that_are_no_station", ["9"] * 23), ("65536_and_924", ["924", *free[2:], "65536"]), ("65536_and_none_free", ["7"] * 23 + ["65536"]),
+    ):
+        yield "calendar_of_" + name, amid(",".join(["calendar", *fields]).encode())
+    for name, word in (("calendars", "calendars"), ("word_too_short_of_a_calendar", "calenda"), ("capital_of_a_calendar", "Calendar"), ("comma_before_a_calendar", ",calendar")):
+        yield name, amid(",".join([word, *free]).encode())
+    yield "first_is_a_calendar", lines(CLEARED, TWO, "slot,1,1")
 
 
 def starts():
@@ -352,10 +462,12 @@ def drives():
         (7, 3, 1, 432), (7, 2, 3, 432), (7, 5, 8, 432), (64, 3, 1, 216), (64, 8, 3, 216), (64, 2, 8, 216),
     ):
         yield "driven_stations_%d_groups_%d" % (stations, n), driven(stations, m, n, slots)
+    for stations, m, n, slots in ((1, 2, 1, 240), (2, 3, 3, 240), (7, 3, 1, 240), (7, 2, 8, 240), (64, 3, 1, 120), (64, 8, 3, 120)):
+        yield "driven_with_calendars_stations_%d_groups_%d" % (stations, n), driven(stations, m, n, slots, calendars=True)
 
 
 def cases():
-    for part in (walks, starts, refusals, broken, drives):
+    for part in (walks, streams, starts, refusals, calendars, broken, drives):
         yield from part()
 
 

@@ -1,7 +1,7 @@
 #!/usr/bin/env python3
-"""What crates/station_run must write, made from the paper's sentences and not from the Rattle programs.
+"""What crates/station_run must write, made from the papers' sentences and not from the Rattle programs.
 
-The box, its limits, its slot and its numbers are written here once more: queues are counted by walking the minislots, a
+The box, its limits, its slot, its calendar and its numbers are written here once more: queues are counted by walking the minislots, a
 box's place is what its queue has grown to when its own minislot has been passed.
 """
 import sys
@@ -11,6 +11,7 @@ import listener
 WORDS = [w for w in range(4096) if format(w, "b").count("1") == 6]
 PLACES = {w: i for i, w in enumerate(WORDS)}
 LIMIT = {"H": 4095, "N": 65535, "RQ": 4095}
+FREE = 65535  # the entry of a position without an owner
 
 
 class Refusal(Exception):
@@ -20,17 +21,27 @@ class Refusal(Exception):
 # ---- the record
 
 def blank(m, n, index):
-    return {"m": m, "n": n, "next": 1, "H": 0, "N": 0, "RQ": [0] * 8, "Open": [True] * 8, "index": index, "is": ("free",)}
+    return {
+        "m": m, "n": n, "next": 1, "H": 0, "N": 0, "RQ": [0] * 8, "Open": [True] * 8, "calendar": [FREE] * 24, "position": 0,
+        "index": index, "is": ("free",),
+    }
 
 
 def nothing():
     box = blank(0, 0, 0)
-    box.update(next=0, Open=[False] * 8)
+    box.update(next=0, Open=[False] * 8, calendar=[0] * 24)
     return box
 
 
 def in_range(low, x, high):
     return low <= x <= high
+
+
+INDEXES = set(PLACES.values())
+
+
+def owners_of(calendar):
+    return set(calendar) - {FREE}
 
 
 def condition_fits(box):
@@ -58,6 +69,8 @@ def fits(box):
     inside, above = box["RQ"][: box["n"]], box["RQ"][box["n"]:]
     if any(r > LIMIT["RQ"] for r in inside) or any(above) or not all(box["Open"][box["n"]:]):
         return False
+    if not in_range(0, box["position"], 23) or FREE not in box["calendar"] or owners_of(box["calendar"]) - INDEXES:
+        return False
     return condition_fits(box)
 
 
@@ -78,7 +91,7 @@ def read(word, count):
     return ("collide",)
 
 
-# ---- the three operations
+# ---- the four operations
 
 def start(m, n, index):
     if not (in_range(2, m, 8) and in_range(1, n, 8)):
@@ -147,6 +160,9 @@ def slot(box, row, pick):
         raise Refusal(7)
     must_hear(box, row, heard)
     turn = "urgent" if H else "long" if N else "resolve" if RQ else "open"  # step 2
+    owner = box["calendar"][box["position"]]
+    if owner != FREE:
+        turn = "owned,%d" % owner
     if RQ:  # step 3
         asks = after[0] == "resolving" and after[1] == g and after[2] == 1
     else:
@@ -173,8 +189,20 @@ def slot(box, row, pick):
     new = dict(box, H=H - (turn == "urgent"), N=N - (turn == "long"), next=g % box["n"] + 1, RQ=list(box["RQ"]), Open=list(box["Open"]))
     new["RQ"][g - 1] = max(RQ - 1, 0)
     new["Open"][g - 1] = turn == "open"
+    new["position"] = (box["position"] + 1) % 24
     new["is"] = after
     return (turn, pick if asks else 0, segment), new
+
+
+def calendar(box, entries):
+    """The record after: the entries in the place of those it had, and nothing else."""
+    if not fits(box):
+        raise Refusal(18)
+    if owners_of(entries) - INDEXES:
+        raise Refusal(20)
+    if FREE not in entries:
+        raise Refusal(21)
+    return dict(box, calendar=list(entries))
 
 
 # ---- what is written
@@ -186,6 +214,15 @@ def put(*parts):
 def put_record(box):
     marks = ["yes" if o else "no" for o in box["Open"]]
     put("record", box["m"], box["n"], box["next"], box["H"], box["N"], *box["RQ"], *marks, box["index"], *box["is"])
+
+
+def owned_text(position, entries):
+    """The coming position and who owns which."""
+    return "position,%d " % position + ",".join(["owned"] + ["%d:%d" % x for x in enumerate(entries) if x[1] != FREE])
+
+
+def show(box):
+    print(owned_text(box["position"], box["calendar"]))
 
 
 def begin(m, n, index):
@@ -217,6 +254,29 @@ def offered(box, size):
     except Refusal as r:
         put("refused", r)
     put_record(box)
+    return box
+
+
+def calendared(box, entries):
+    put("calendar", *entries)
+    return calendar_put(box, entries)
+
+
+def calendar_put(box, entries):
+    try:
+        box = calendar(box, entries)
+        put("set")
+    except Refusal as r:
+        put("refused", r)
+    put_record(box)
+    show(box)
+    return box
+
+
+def at(box, position, entries):
+    """The same box with this position and calendar, whatever they are."""
+    box = dict(box, position=position, calendar=list(entries))
+    show(box)
     return box
 
 
@@ -259,10 +319,25 @@ def beside(box, ear, recording, place, pick):
     row = recording[place:place + box["m"]]
     box = gone(box, row, pick)
     try:
-        put("went", {"u": "urgent", "l": "long", "r": "resolve", "o": "open"}[listener.listen(ear, [w for w, _ in row], [c for _, c in row])])
+        letter, *owner = listener.listen(ear, [w for w, _ in row], [c for _, c in row]).split(",")
+        put("went", {"u": "urgent", "l": "long", "r": "resolve", "o": "open", "w": "owned"}[letter], *owner)
     except listener.Refusal as r:
         put("refused", r.number)
     put_counters(ear)
+    return box
+
+
+def calendar_beside(box, ear, entries):
+    """The box's calendar set, and then the listener's."""
+    put("calendar_beside", *entries)
+    box = calendar_put(box, entries)
+    try:
+        listener.set_calendar(ear, entries)
+        put("set")
+    except listener.Refusal as r:
+        put("refused", r.number)
+    put_counters(ear)
+    print(owned_text(ear.position, ear.calendar))
     return box
 
 
@@ -413,6 +488,131 @@ def lone_request_clicked():
             box = beside(box, ear, recording, 2 * k, pick)
 
 
+# ---- calendars
+
+SILENT = [EMPTY, EMPTY]
+MOST = listener.entries({p: 900 + p for p in range(24) if p != 11})
+FULL = [7] * 24
+
+
+def owning(**owners):
+    """The calendar in which these positions have these owners: p5=7 for position 5 and index 7."""
+    return listener.entries({int(name[1:]): index for name, index in owners.items()})
+
+
+NOBODY = owning()
+
+
+def settings():
+    """A calendar set: 1, 23 and 0 owned positions, again, and at a position that is not the first; 20 and 21."""
+    box = begin(2, 1, 7)
+    show(box)
+    for entries in (owning(p5=7), MOST, NOBODY, owning(p0=0, p23=923)):
+        box = calendared(box, entries)
+    box = slotted(box, SILENT, 1)
+    for entries in (
+        owning(p0=924), owning(p23=924), owning(p11=65534), owning(p4=4096, p5=7), FULL[:12] + [924] + FULL[13:], FULL[:23] + [65534],
+        FULL, list(range(24)), [923] * 24, owning(p1=8, p2=7), NOBODY,
+    ):
+        box = calendared(box, entries)
+    box = offered(box, 49)
+    calendared(box, owning(p1=7))
+
+
+def outside_calendar_limits():
+    """18 by the calendar or the position, tried by each call where a later number would come; and 18 by other limits, of a calendar set."""
+    for position, entries in ((24, NOBODY), (255, owning(p5=7)), (0, owning(p23=924)), (3, owning(p0=65534)), (0, FULL), (23, list(range(24)))):
+        box = at(given(2, 1, 1, 0, 0, 0, 0, True, 7, ("fresh", 1)), position, entries)
+        offered(box, 0)
+        slotted(box, [EMPTY], 0)
+        calendared(box, owning(p0=924))
+        calendared(box, NOBODY)
+    for position, entries in ((23, owning(p23=7)), (23, owning(p0=923)), (11, MOST)):
+        box = at(given(2, 1, 1, 0, 0, 0, 0, True, 7, ("fresh", 1)), position, entries)
+        show(slotted(box, SILENT, 2))
+    for values in ((2, 1, 2, 0, 0, 0, 0, True, 0, ("free",)), (2, 1, 1, 0, 0, 0, 0, True, 924, ("free",)), (2, 1, 1, 1, 0, 0, 0, True, 0, ("urgent", 2))):
+        calendared(given(*values), FULL)
+    calendared(begin(1, 1, 0), owning(p0=924))
+
+
+def owner_in_every_condition():
+    """A slot at a position that the box owns, and the next one, which nobody does; then some where another box is the owner."""
+    mine, other = (63, 1), (95, 1)
+    for H, N, RQ, is_open, condition, row, following in (
+        (0, 0, 0, True, ("free",), SILENT, SILENT),
+        (1, 0, 1, True, ("free",), [other, EMPTY], SILENT),
+        (0, 0, 0, True, ("fresh", 1), SILENT, SILENT),
+        (1, 2, 0, False, ("fresh", 3), SILENT, SILENT),
+        (0, 0, 1, False, ("fresh", 1), SILENT, SILENT),
+        (0, 0, 0, True, ("asked", 1, 2, 1), [EMPTY, mine], SILENT),
+        (2, 0, 0, True, ("asked", 1, 2, 1), [EMPTY, mine], SILENT),
+        (0, 0, 0, False, ("asked", 1, 2, 1), [EMPTY, mine], SILENT),
+        (0, 0, 0, True, ("asked", 1, 2, 1), [other, mine], SILENT),
+        (0, 0, 0, True, ("asked", 1, 2, 3), [other, (63, 3)], SILENT),
+        (0, 4, 0, True, ("asked", 1, 2, 3), [EMPTY, (63, 3)], SILENT),
+        (0, 0, 0, True, ("asked", 1, 2, 1), [EMPTY, (127, 1)], SILENT),
+        (0, 0, 2, False, ("asked", 1, 2, 3), [(127, 0), (127, 3)], SILENT),
+        (0, 0, 0, True, ("asked", 2, 1, 1), SILENT, [mine, EMPTY]),
+        (0, 0, 1, False, ("resolving", 1, 1, 1), SILENT, SILENT),
+        (0, 0, 2, False, ("resolving", 1, 2, 5), [other, EMPTY], SILENT),
+        (0, 0, 2, False, ("resolving", 2, 1, 1), SILENT, SILENT),
+        (1, 0, 0, False, ("urgent", 1), SILENT, SILENT),
+        (2, 3, 1, False, ("urgent", 2), [other, EMPTY], SILENT),
+        (0, 3, 0, False, ("long", 1, 3, 3), SILENT, SILENT),
+        (0, 1, 0, False, ("long", 1, 1, 255), SILENT, SILENT),
+        (0, 5, 1, False, ("long", 4, 2, 7), SILENT, SILENT),
+        (1, 2, 0, False, ("long", 1, 2, 2), SILENT, SILENT),
+    ):
+        RQ2 = 1 if condition[:2] == ("resolving", 2) else 0
+        box = at(given(2, 2, 1, H, N, RQ, RQ2, is_open, 0, condition), 5, owning(p5=0, p7=8))
+        slotted(slotted(box, row, 1), following, 2)
+    for H, N, condition in ((0, 0, ("fresh", 1)), (1, 0, ("urgent", 1)), (0, 2, ("long", 1, 2, 2)), (0, 0, ("free",))):
+        box = at(given(2, 2, 1, H, N, 0, 0, True, 0, condition), 5, owning(p5=923))
+        slotted(slotted(box, SILENT, 1), SILENT, 2)
+
+
+def streams():
+    """A calendar set between an open slot and its row; requests made in an owned slot; refused slots; the end of the calendar."""
+    for entries in (owning(p1=9), owning(p1=0), owning(p0=0)):
+        box = slotted(offered(begin(2, 1, 0), 10), SILENT, 2)
+        box = calendared(box, entries)
+        box = slotted(box, [EMPTY, (63, 1)], 1)
+        box = slotted(offered(box, 1), SILENT, 1)
+        slotted(box, [(63, 1), EMPTY], 1)
+    for after in (owning(p0=0), NOBODY):
+        box = offered(calendared(begin(2, 1, 0), owning(p0=0)), 10)
+        box = slotted(box, SILENT, 2)
+        box = calendared(box, after)
+        slotted(box, [EMPTY, (63, 1)], 1)
+    for position in (23, 5):
+        box = at(given(2, 1, 1, 4095, 0, 0, 0, False, 0, ("asked", 1, 1, 1)), position, owning(p23=0))
+        for row, pick in (([EMPTY], 1), (SILENT, 0), ([(4096, 0), EMPTY], 1), ([(95, 0), EMPTY], 1), ([EMPTY, (0, 1)], 1), ([(95, 1), EMPTY], 1), (SILENT, 1), ([(127, 0), EMPTY], 2)):
+            box = slotted(box, row, pick)
+        show(box)
+    box = offered(calendared(begin(2, 1, 0), listener.entries({p: 0 for p in range(24) if p != 11})), 10)
+    box = slotted(box, SILENT, 1)
+    box = slotted(box, [(63, 1), EMPTY], 1)
+    for _ in range(24):
+        box = slotted(box, SILENT, 1)
+    show(box)
+
+
+def streams_beside():
+    """A box and a listener hear the same rows under the same calendar, set and cleared on the way."""
+    recording = [EMPTY, EMPTY, (127, 1), EMPTY, EMPTY, (63, 1), (95, 2), (111, 1), EMPTY, EMPTY]
+    box = offered(begin(2, 1, 0), 10)
+    ear = listening(2, 1)
+    box = calendar_beside(box, ear, owning(p1=0, p2=923))
+    for place, pick in ((0, 1), (2, 2), (4, 1), (6, 1), (9, 1)):
+        box = beside(box, ear, recording, place, pick)
+    box = calendar_beside(box, ear, FULL)
+    box = calendar_beside(box, ear, owning(p4=8))
+    box = beside(box, ear, recording, 8, 1)
+    box = calendar_beside(box, ear, NOBODY)
+    box = beside(box, ear, recording, 8, 1)
+    beside(box, ear, recording, 8, 1)
+
+
 def main():
     starts()
     offers()
@@ -426,6 +626,11 @@ def main():
     second_in_line()
     recordings()
     lone_request_clicked()
+    settings()
+    outside_calendar_limits()
+    owner_in_every_condition()
+    streams()
+    streams_beside()
 
 
 if __name__ == "__main__":

@@ -7,11 +7,11 @@ use Rattle.decimals.specs.Decimal.{digitsOf}
 use Rattle.decimals.specs.Printing.{recordOf}
 use Rattle.forms.specs.Form.{formOf, leftOf}
 use Rattle.turn_letters.specs.Letters.{letterOf}
-use Rattle.call_records.specs.Words.{offerWord}
+use Rattle.call_records.specs.Words.{offerWord, calendarWord}
 use Rattle.rules.specs.declared.Counters.{Counters}
 use Rattle.rules.specs.declared.Turn.{Turn}
 use Rattle.rules.specs.declared.Turn.the-variants as turn
-use Rattle.rules.specs.declared.Answer.the-variants.{Refused, Taken, Went}
+use Rattle.rules.specs.declared.Answer.the-variants.{Refused, Taken, Set, Went}
 use Rattle.answer_lines.specs.AnswerLines.{headerOf, refusedWord, answerLine}
 
 -- `call,kind,group,turn,senders,index,segment,delivered,H,N,RQ`
@@ -34,11 +34,16 @@ module _ (k group : ℕ) (c : Counters) where
   unfolding formOf leftOf answerLine recordOf
   offer-form total = refl
 
+  pub calendar-form : formOf (35 ∷ 44 ∷ calendarWord) (k ∷ []) ≡ answerLine k group c Set
+  unfolding formOf leftOf answerLine recordOf
+  calendar-form = refl
+
   pub slot-form : (t : Turn) (senders index segment delivered : ℕ)
       → formOf (35 ∷ 44 ∷ 115 ∷ 108 ∷ 111 ∷ 116 ∷ 44 ∷ 35 ∷ 44 ∷ letterOf t ∷ [])
       (k ∷ group ∷ senders ∷ index ∷ segment ∷ delivered ∷ c .urgent ∷ c .long ∷ getD (c .resolution) (group - 1) 0 ∷ [])
       ≡ answerLine k group c (Went t senders index segment delivered)
   unfolding formOf leftOf answerLine recordOf
+  slot-form (turn.Owned x) senders index segment delivered = refl
   slot-form turn.Urgent senders index segment delivered = refl
   slot-form turn.Long senders index segment delivered = refl
   slot-form turn.Resolve senders index segment delivered = refl

@@ -88,6 +88,10 @@ pub fn put_answer(
             let values = [call, total as u64];
             put_form(out, at, b"#,offer", &values)
         }
+        Answer::Set => {
+            let values = [call];
+            put_form(out, at, b"#,calendar", &values)
+        }
         Answer::Went {
             turn,
             senders,

@@ -1,7 +1,8 @@
 // Tables of 64 stations of one kind each.
 //
 // 0: all free. 1: all urgent. 2: all long, stretches of 255 slots one after another. 3: all resolving, 32 places of two. 4: all asked in
-// one minislot. 5: all asked, one in each minislot of eight groups. 6: full counters, any condition.
+// one minislot. 5: all asked, one in each minislot of eight groups. 6: full counters, any condition. 7: as 3, and the last station owns
+// every position but one; in the others nobody owns any.
 use minislot::Minislot;
 use rules::Condition;
 use rules::Counters;
@@ -22,13 +23,22 @@ fn queue(g: usize, kind: u64, groups: u8) -> u16 {
     if kind == 6 {
         return if g < groups as usize { 4095 } else { 0 };
     }
-    if kind == 3 {
+    if kind == 3 || kind == 7 {
         return if g == 0 { 32 } else { 0 };
     }
     0
 }
 
+// The last position is free in each kind.
+fn calendar_of(kind: u64) -> [u16; 24] {
+    let owner = if kind == 7 { 882 } else { 65535 };
+    let mut calendar = [owner; 24];
+    calendar[23] = 65535;
+    calendar
+}
+
 fn counters_of(kind: u64, groups: u8) -> Counters {
+    let calendar = calendar_of(kind);
     let mut resolution = [0u16; 8];
     let mut g: usize = 0;
     while g < 8 {
@@ -53,6 +63,8 @@ fn counters_of(kind: u64, groups: u8) -> Counters {
         long,
         resolution,
         opened: [true; 8],
+        calendar,
+        position: 0,
     }
 }
 
@@ -109,6 +121,11 @@ fn condition_of(kind: u64, k: u16) -> Condition {
             minislot: (i % 8) as u8 + 1,
             total: 255,
         },
+        7 => Condition::Resolving {
+            group: 1,
+            place: i / 2 + 1,
+            total: 1,
+        },
         _ => drawn(k),
     }
 }
@@ -119,6 +136,9 @@ fn condition_of(kind: u64, k: u16) -> Condition {
 fn heard(kind: u64) -> usize
     ensures { λ r. ⌜ r ≤ 64 ⌝ }
 {
+    if kind == 7 {
+        return 0;
+    }
     if kind < 4 { 0 } else { 64 }
 }
 

@@ -29,6 +29,7 @@ fn digest_of(answer: Answer) -> u64 {
     match answer {
         Answer::Refused(number) => number as u64,
         Answer::Taken(total) => total as u64 + 100,
+        Answer::Set => 99,
         Answer::Went {
             turn: _,
             senders,

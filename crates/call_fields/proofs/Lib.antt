@@ -1,2 +1,3 @@
 pub mod OfferReads
 pub mod StartReads
+pub mod CalendarReads

@@ -1,12 +1,12 @@
--- The word that a record of `rehearse` begins with: `offer,` or `slot,` with numbers after it, or `slot` or `show` alone. Bytes are
--- numbers: letters are ASCII, the comma is 44. Assumes nothing.
+-- The word that a record of `rehearse` begins with: `offer,`, `slot,` or `calendar,` with numbers after it, or `slot` or `show` alone.
+-- Bytes are numbers: letters are ASCII, the comma is 44. Assumes nothing.
 use mathlib.Core.Bool.{Bool, true, false, cond, _&&_}
 use mathlib.Core.List.{List, [], _∷_}
 use Prim.Native.Nat.{ℕ}
 use lib.Dec.{eqb}
 use lib.ListN.{length}
 use Rattle.call_records.specs.declared.Kind.{Kind}
-use Rattle.call_records.specs.declared.Kind.the-variants.{Offer, Slot, BareSlot, Show, Unknown}
+use Rattle.call_records.specs.declared.Kind.the-variants.{Offer, Slot, BareSlot, Calendar, Show, Unknown}
 
 -- whether a list begins with a word
 unfoldable pub prefixed : List ℕ → List ℕ → Bool
@@ -32,6 +32,13 @@ offerStart = 111 ∷ 102 ∷ 102 ∷ 101 ∷ 114 ∷ 44 ∷ []
 abbrev pub slotStart : List ℕ
 slotStart = 115 ∷ 108 ∷ 111 ∷ 116 ∷ 44 ∷ []
 
+-- `calendar` and `calendar,`
+abbrev pub calendarWord : List ℕ
+calendarWord = 99 ∷ 97 ∷ 108 ∷ 101 ∷ 110 ∷ 100 ∷ 97 ∷ 114 ∷ []
+
+abbrev pub calendarStart : List ℕ
+calendarStart = 99 ∷ 97 ∷ 108 ∷ 101 ∷ 110 ∷ 100 ∷ 97 ∷ 114 ∷ 44 ∷ []
+
 -- `show`
 abbrev pub showWord : List ℕ
 showWord = 115 ∷ 104 ∷ 111 ∷ 119 ∷ []
@@ -41,6 +48,7 @@ unfoldable pub kindOf : List ℕ → Kind
 kindOf bytes =
     cond (prefixed slotStart bytes) Slot
     (cond (prefixed offerStart bytes) Offer
+    (cond (prefixed calendarStart bytes) Calendar
     (cond (isWord showWord bytes) Show
     (cond (isWord slotWord bytes) BareSlot
-    Unknown)))
+    Unknown))))

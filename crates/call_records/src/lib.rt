@@ -2,11 +2,13 @@
 ghost use mathlib.Core.Path.{_≡_};
 ghost use Rattle.call_records.specs.Words.{prefixed, isWord, kindOf};
 
-// The call that a record asks for: an offer, a slot, a slot with no picks, or to be shown the channel; or it is no call.
+// The call that a record asks for: an offer, a slot, a slot with no picks, to set a calendar, or to be shown the channel; or it is
+// no call.
 pub enum Kind {
     Offer,
     Slot,
     BareSlot,
+    Calendar,
     Show,
     Unknown,
 }
@@ -47,6 +49,9 @@ pub fn kind_of(bytes: &[u8]) -> Kind
     }
     if begins_with(bytes, b"offer,") {
         return Kind::Offer;
+    }
+    if begins_with(bytes, b"calendar,") {
+        return Kind::Calendar;
     }
     if is_word(bytes, b"show") {
         return Kind::Show;

@@ -1,5 +1,5 @@
 -- The table by value: how many stations it has; that it is the first of the records; and that, of a table that was loaded, it is that table,
--- or as long where there are more than 64. Assumes nothing.
+-- or as long where there are more than 64. And what a refusal leaves. Assumes nothing.
 use mathlib.Core.Path.{_≡_, sym, ap, _∙_}
 use mathlib.Core.Bool.{Bool, true, false}
 use mathlib.Core.List.{List, _++_, append-nil}
@@ -16,11 +16,12 @@ use Rattle.rules.specs.declared.WireRow.{WireRow}
 use Rattle.rules.specs.Limits.{between}
 use Rattle.channel_rules.specs.Soundness.{soundTable}
 use Rattle.rules.specs.StationCalls.{noStation}
-use Rattle.channel_rules.specs.ChannelCalls.{hasStations}
+use Rattle.channel_rules.specs.ChannelCalls.{hasStations, refused}
 use Rattle.rules.proofs.LimitLaws.{between-bounds}
 use Rattle.table.specs.Loading.{absent, loadOf}
-use Rattle.table.proofs.Loading.{load-count, table-loaded}
-use Rattle.calls.specs.ByValue.{arrayTable}
+use Rattle.table.proofs.Loading.{load-count, table-loaded, store-none}
+use Rattle.calls.specs.ByValue.{channelOf, arrayTable}
+use Rattle.calls.specs.Replies.{refusedDecided, decidedLeft}
 
 -- ---- 1 to 64
 
@@ -61,3 +62,7 @@ array-loaded ys h = array-first (loadOf ys .stations) (loadOf ys .count) (load-f
 
 pub array-many : (ys : List Station) → length (arrayTable (loadOf ys .stations) (loadOf ys .count)) ≡ length ys
 array-many ys = array-length (loadOf ys .stations) (loadOf ys .count) (load-full ys) ∙ load-count ys
+
+-- a refusal leaves table and wire
+pub refused-left : (ys : List Station) (wire : List WireRow) (k : ℕ) → decidedLeft ys (refusedDecided wire k) ≡ refused (channelOf ys wire) k
+refused-left ys wire k = rw (store-none ys)

@@ -3,9 +3,12 @@ use rules::Answer;
 use rules::Outcome;
 use rules::StartAnswer;
 use rules::WireRow;
+use table::Loaded;
+use table::blanks;
+use table::hold;
 ghost use mathlib.Core.Path.{_≡_};
 ghost use Rattle.rules.specs.Limits.{between};
-ghost use Rattle.calls.specs.Replies.{refusedReply};
+ghost use Rattle.calls.specs.Replies.{refusedReply, refusedDecided};
 
 // The most stations that a channel has.
 const MOST_STATIONS: usize = 64;
@@ -16,10 +19,17 @@ pub struct StartReply {
     pub wire: [WireRow; 8],
 }
 
-// What an offer or a slot comes back with: its answer, and the wire after it (as it came where the call is refused).
+// What an offer, a calendar or a slot comes back with: its answer, and the wire after it (as it came where the call is refused).
 pub struct CallReply {
     pub answer: Answer,
     pub wire: [WireRow; 8],
+}
+
+// What an offer or a calendar comes to, on a copy of the table: the records to be written over the table (none where it is refused), and
+// its reply.
+pub struct Decided {
+    pub loaded: Loaded,
+    pub reply: CallReply,
 }
 
 // A slot judged: its number in order of checking (0 where it goes through), how many stations step, and the outcome that they step by.
@@ -39,12 +49,22 @@ pub fn has_stations(n: usize) -> bool
     n <= MOST_STATIONS
 }
 
-// An offer or a slot that is refused.
+// A call that is refused.
 pub fn refuse(wire: [WireRow; 8], number: u8) -> CallReply
     ensures { λ r. ⌜ r ≡ refusedReply wire number ⌝ }
 {
     CallReply {
         answer: Answer::Refused(number),
         wire,
+    }
+}
+
+// The same, on a copy of the table: no record is written.
+pub fn decline(wire: [WireRow; 8], number: u8) -> Decided
+    ensures { λ r. ⌜ r ≡ refusedDecided wire number ⌝ }
+{
+    Decided {
+        loaded: hold(blanks(), 0),
+        reply: refuse(wire, number),
     }
 }

@@ -29,8 +29,10 @@ use Rattle.table.proofs.DataKinds.{vals, of-uint}
 use Rattle.table.proofs.Returned.{owned-of, value-returned, Use}
 use Rattle.table.proofs.Values.{station, loaded}
 use Rattle.offers.specs.Offering.{offeredOf}
-use Rattle.channel.proofs.Values.{wire, sent, called, offered, judged}
+use Rattle.settings.specs.Setting.{settingOf}
+use Rattle.channel.proofs.Values.{wire, entries, sent, called, decided, judged}
 use Rattle.offers.proofs.place_offer as offer′
+use Rattle.settings.proofs.place_calendar as calendar′
 use Rattle.replying.proofs.reply as reply′
 
 module _ {M : Type 1} (𝓤 : URA M) (H : Heap 𝓤) (A : Atoms 𝓤) (mem : Memory → SProp 𝓤) (run : Routine → Fun 𝓤) where
@@ -39,12 +41,24 @@ module _ {M : Type 1} (𝓤 : URA M) (H : Heap 𝓤) (A : Atoms 𝓤) (mem : Mem
   PlaceOffer = tripleOf 𝓤 H A offer′.signature (offer′.spec 𝓤 H A mem run)
 
   pub use-offer : Given 𝓤 H A → (d : Loaded) (w : List WireRow) (i n : ℕ) → Is (loaded .R) d (vals loaded d) → Is (wire .R) w (vals wire w) → i < 2 ^ 16 → n < 2 ^ 64
-      → Use 𝓤 H PlaceOffer ((tt, tt, tt, (d, (w, (i, (n, tt)))), (vals loaded d, (vals wire w, (vint w16 i ∷ [], (vint w64 n ∷ [], tt))))), tt) offered (offeredOf (d .stations) (d .count) w i n)
+      → Use 𝓤 H PlaceOffer ((tt, tt, tt, (d, (w, (i, (n, tt)))), (vals loaded d, (vals wire w, (vint w16 i ∷ [], (vint w64 n ∷ [], tt))))), tt) decided (offeredOf (d .stations) (d .count) w i n)
   use-offer W d w i n gd gw gi gn = record {
     asks = qed W [] ∵ nothing ! $ owned-of ! (of-uint w64) n _ (refl, gn) $ fjoin ! $ owned-of ! (of-uint w16) i _ (refl, gi) $ fjoin ! $ owned-of ! wire w _ gw $ fjoin ! $
         owned-of ! loaded d _ gd $ fjoin ! $ nothing ! $ join ! $ frame ! $ done !;
-    says = λ v. value-returned 𝓤 H A W offered (offeredOf (d .stations) (d .count) w i n) v (ensured 𝓤 H A offer′.ended (offer′.clauses 𝓤 H A mem run) tt (d, (w, (i, (n, tt)))) tt)
+    says = λ v. value-returned 𝓤 H A W decided (offeredOf (d .stations) (d .count) w i n) v (ensured 𝓤 H A offer′.ended (offer′.clauses 𝓤 H A mem run) tt (d, (w, (i, (n, tt)))) tt)
         (λ r. exE 𝓤 _ (λ ws. snd∗ 𝓤 (sem 𝓤 H A (lasts offer′.ended tt (d, (w, (i, (n, tt)))) ws)) (fact 𝓤 (r ≡ offeredOf (d .stations) (d .count) w i n))));
+  }
+
+  -- ---- place_calendar
+  abbrev pub PlaceCalendar : Contract 𝓤
+  PlaceCalendar = tripleOf 𝓤 H A calendar′.signature (calendar′.spec 𝓤 H A mem run)
+
+  pub use-calendar : Given 𝓤 H A → (d : Loaded) (w : List WireRow) (e : List ℕ) → Is (loaded .R) d (vals loaded d) → Is (wire .R) w (vals wire w) → Is (entries .R) e (vals entries e)
+      → Use 𝓤 H PlaceCalendar ((tt, tt, tt, (d, (w, (e, tt))), (vals loaded d, (vals wire w, (vals entries e, tt)))), tt) decided (settingOf (d .stations) (d .count) w e)
+  use-calendar W d w e gd gw ge = record {
+    asks = qed W [] ∵ nothing ! $ owned-of ! entries e _ ge $ fjoin ! $ owned-of ! wire w _ gw $ fjoin ! $ owned-of ! loaded d _ gd $ fjoin ! $ nothing ! $ join ! $ frame ! $ done !;
+    says = λ v. value-returned 𝓤 H A W decided (settingOf (d .stations) (d .count) w e) v (ensured 𝓤 H A calendar′.ended (calendar′.clauses 𝓤 H A mem run) tt (d, (w, (e, tt))) tt)
+        (λ r. exE 𝓤 _ (λ ws. snd∗ 𝓤 (sem 𝓤 H A (lasts calendar′.ended tt (d, (w, (e, tt))) ws)) (fact 𝓤 (r ≡ settingOf (d .stations) (d .count) w e))));
   }
 
   -- ---- reply

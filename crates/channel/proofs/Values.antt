@@ -19,15 +19,20 @@ use Rattle.calls.proofs.Judged.Laws as J′
 use Rattle.starts.specs.declared.Beginning.{Beginning}
 use Rattle.starts.proofs.Beginning as B
 use Rattle.starts.proofs.Beginning.Laws as B′
-use Rattle.offers.specs.declared.Offered.{Offered}
-use Rattle.offers.proofs.Offered as O
-use Rattle.offers.proofs.Offered.Laws as O′
-use Rattle.table.proofs.DataKinds.{Kind, vals, of-struct, of-array}
+use Rattle.calls.specs.declared.Decided.{Decided}
+use Rattle.calls.proofs.Decided as D
+use Rattle.calls.proofs.Decided.Laws as D′
+use mir.Syntax.{w16}
+use Rattle.table.proofs.DataKinds.{Kind, vals, of-struct, of-array, of-uint}
 use Rattle.table.proofs.Values.{loaded}
 
 -- the wire, an array of rows
 abbrev pub wire : Kind
 wire = of-array (of-struct W.the-type W′.the-laws W′.the-plain W′.the-copy) 8
+
+-- the entries of a calendar
+abbrev pub entries : Kind
+entries = of-array (of-uint w16) 24
 
 abbrev pub outcome : Kind
 outcome = of-struct T.the-type T′.the-laws T′.the-plain T′.the-copy
@@ -44,8 +49,8 @@ called = of-struct C.the-type C′.the-laws C′.the-plain C′.the-copy
 abbrev pub beginning : Kind
 beginning = of-struct B.the-type B′.the-laws B′.the-plain B′.the-copy
 
-abbrev pub offered : Kind
-offered = of-struct O.the-type O′.the-laws O′.the-plain O′.the-copy
+abbrev pub decided : Kind
+decided = of-struct D.the-type D′.the-laws D′.the-plain D′.the-copy
 
 abbrev pub judged : Kind
 judged = of-struct J.the-type J′.the-laws J′.the-plain J′.the-copy
@@ -58,11 +63,11 @@ beginning-loaded d g = LL.owed B.the-type B′.the-laws d _ g .0
 pub beginning-reply : (d : Beginning) → Is (beginning .R) d (vals beginning d) → Is (started .R) (d .reply) (vals started (d .reply))
 beginning-reply d g = LL.owed B.the-type B′.the-laws d _ g .1 .0
 
-pub offered-loaded : (d : Offered) → Is (offered .R) d (vals offered d) → Is (loaded .R) (d .loaded) (vals loaded (d .loaded))
-offered-loaded d g = LL.owed O.the-type O′.the-laws d _ g .0
+pub decided-loaded : (d : Decided) → Is (decided .R) d (vals decided d) → Is (loaded .R) (d .loaded) (vals loaded (d .loaded))
+decided-loaded d g = LL.owed D.the-type D′.the-laws d _ g .0
 
-pub offered-reply : (d : Offered) → Is (offered .R) d (vals offered d) → Is (called .R) (d .reply) (vals called (d .reply))
-offered-reply d g = LL.owed O.the-type O′.the-laws d _ g .1 .0
+pub decided-reply : (d : Decided) → Is (decided .R) d (vals decided d) → Is (called .R) (d .reply) (vals called (d .reply))
+decided-reply d g = LL.owed D.the-type D′.the-laws d _ g .1 .0
 
 pub judged-steps : (d : Judged) → Is (judged .R) d (vals judged d) → d .steps < 2 ^ 64
 judged-steps d g = LL.owed J.the-type J′.the-laws d _ g .1 .0 .1

@@ -1,5 +1,5 @@
-// The channel: a table of stations that the caller lends, and a wire passed beside it; its start, its offers and its slots. What a call
-// comes to is worked out by value on a copy of the table; the functions here, over the lent table, are few and thin.
+// The channel: a table of stations that the caller lends, and a wire passed beside it; its start, its offers, its calendar and its slots.
+// What a call comes to is worked out by value on a copy of the table; the functions here, over the lent table, are few and thin.
 use calls::CallReply;
 use calls::StartReply;
 use offers::place_offer;
@@ -7,14 +7,15 @@ use pass::step_all;
 use replying::reply;
 use rules::Station;
 use rules::WireRow;
+use settings::place_calendar;
 use slots::judge;
 use starts::begin;
 use table::load;
 use table::store;
 ghost use mathlib.Core.Path.{_≡_};
-ghost use Rattle.channel_rules.specs.ChannelCalls.{channelStartOf, channelOfferOf, channelSlotOf};
+ghost use Rattle.channel_rules.specs.ChannelCalls.{channelStartOf, channelOfferOf, channelCalendarOf, channelSlotOf};
 ghost use Rattle.rules.specs.Numbers.{startTold, callTold};
-ghost use Rattle.channel_rules.specs.Answered.{channelStartToldOf, channelOfferToldOf, channelSlotToldOf};
+ghost use Rattle.channel_rules.specs.Answered.{channelStartToldOf, channelOfferToldOf, channelCalendarToldOf, channelSlotToldOf};
 ghost use Rattle.calls.specs.ByValue.{channelOf};
 ghost use Rattle.channel.specs.Leaving.{leavesStarted, leaves};
 
@@ -45,8 +46,22 @@ pub fn offer(table: &mut [Station], wire: [WireRow; 8], index: u16, bytes: usize
     o.reply
 }
 
-// A slot of the next group. 14: not 1 to 64 stations. 18: the table is not sound. 17: not one pick a station. 11: a pick outside 1 to m. 7:
-// a counter would pass its limit in step 1. A refusal leaves table and wire as they were.
+// Sets every station's calendar to these entries, and leaves the position. 14: not 1 to 64 stations. 18: the table is not sound. 20: an
+// entry is neither free (65,535) nor the index of a station. 21: no entry is free. A refusal leaves table and wire as they were.
+pub fn calendar(table: &mut [Station], wire: [WireRow; 8], entries: [u16; 24]) -> CallReply
+    ensures { λ r. ⌜
+        (leaves (now (table .exit)) r ≡ channelCalendarOf (channelOf (now (table .entry)) wire) entries)
+        × (callTold (r .answer) ≡ channelCalendarToldOf (channelOf (now (table .entry)) wire) entries)
+        ⌝ }
+{
+    let d = load(table);
+    let o = place_calendar(d, wire, entries);
+    store(table, o.loaded);
+    o.reply
+}
+
+// A slot of the next group. 14: not 1 to 64 stations. 18: the table is not sound. 17: not one pick a station. 11: a pick outside 1 to m.
+// 7: a counter would pass its limit in step 1. A refusal leaves table and wire as they were.
 pub fn slot(table: &mut [Station], wire: [WireRow; 8], picks: &[u8]) -> CallReply
     ensures { λ r. ⌜
         (leaves (now (table .exit)) r ≡ channelSlotOf (channelOf (now (table .entry)) wire) (now (picks .entry)))

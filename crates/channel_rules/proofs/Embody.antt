@@ -4,7 +4,7 @@ use mathlib.Core.Path.{_≡_, refl, sym, ap, subst, _∙_}
 use mathlib.Core.Bool.{Bool, true, false, cond, _&&_}
 use mathlib.Core.List.{List, [], _∷_, map}
 use mathlib.Core.Logic.{inl, inr}
-use mathlib.Core.Option.{none, some}
+use mathlib.Core.Option.{Option, none, some}
 use Prim.Native.Nat.{ℕ, zero, suc, _+_, _-_, _≤_, _<_}
 use native.Mathlib.Omega.{arith}
 use lib.Dec.{eqb, ltb, leb}
@@ -17,12 +17,13 @@ use Rattle.rules.specs.Limits.{between}
 use Rattle.rules.specs.declared.Condition.{Condition}
 use Rattle.rules.specs.declared.Condition.the-variants.{Free, Fresh, Asked, Resolving, Urgent, Long}
 use Rattle.rules.specs.StationCalls.{noStation}
-use Rattle.channel_rules.specs.ChannelCalls.{Channel, ChannelResult, blankRow, positionOf, loneIndex, loneSegment, deliveredNow}
+use Rattle.channel_rules.specs.Soundness.{positionOf}
+use Rattle.channel_rules.specs.ChannelCalls.{Channel, ChannelResult, blankRow, loneIndex, loneSegment, deliveredNow}
 use Rattle.rules.specs.Calls.{Start, index}
 use Rattle.rules.specs.Messages.{Message, Segment}
-use Rattle.rules.specs.Plain.{Plain, plainTurn, sent, stationFrom, inRange}
+use Rattle.rules.specs.Plain.{Plain, plainTurn, plainSenders, sent, stationFrom, inRange}
 use Rattle.rules.proofs.Views.{Sender, senderAt}
-use Rattle.rules.proofs.Clauses.{hearing, loneIndexOf, loneNumberOf, serves}
+use Rattle.rules.proofs.Clauses.{hearing, loneIndexOf, loneNumberOf, heeded, serves}
 use Rattle.rules.proofs.ClauseLaws.{Placed}
 use Rattle.rules.proofs.Shared.{Table, TableResult, gather, askedSender, askedRow}
 use Rattle.rules.proofs.Relation.{Fits, Agrees}
@@ -118,12 +119,14 @@ lone-segment-is ix [] = refl
 lone-segment-is ix (x ∷ []) = refl
 lone-segment-is ix (x ∷ y ∷ l) = refl
 
--- exactly one sender on an urgent or long turn
-pub one-served : (u : List Message) (l : List Segment) (r : List (List Message)) (f : List Message) → deliveredNow (plainTurn u l r) (length (sent u l r f)) ≡ serves (length u) (length l)
-one-served (x ∷ u) l r f = refl
-one-served [] (y ∷ l) r f = refl
-one-served [] [] (x ∷ r) f = refl
-one-served [] [] [] f = refl
+-- exactly one sender on an urgent or long turn; of an owned slot's sender nothing is delivered
+pub one-served : (o : Option ℕ) (u : List Message) (l : List Segment) (r : List (List Message)) (f : List Message)
+    → deliveredNow (plainTurn o u l r) (plainSenders o (sent o u l r f)) ≡ serves (heeded o (length u)) (heeded o (length l))
+one-served (some i) u l r f = refl
+one-served none (x ∷ u) l r f = refl
+one-served none [] (y ∷ l) r f = refl
+one-served none [] [] (x ∷ r) f = refl
+one-served none [] [] [] f = refl
 
 -- the k-th record is station k
 pub station-at : (S : Start) (t : Table) (j : ℕ) (l : List Station) → AreStations S t j l → (k : ℕ) → k < length l → IsStation S t (j + k) (getD l k noStation)

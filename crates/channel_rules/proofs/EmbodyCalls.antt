@@ -20,6 +20,7 @@ use Rattle.rules.specs.declared.Station.{Station}
 use Rattle.rules.specs.declared.StationSlot.{StationSlot}
 use Rattle.rules.specs.declared.WireRow.{WireRow}
 use Rattle.listlaws.specs.Lists.{each}
+use Rattle.rules.specs.Calendars.{ownerOf}
 use Rattle.rules.specs.Limits.{between}
 use Rattle.rules.specs.Hearing.{wordsOf, countsOf}
 use Rattle.rules.specs.Queueing.{placesAfter, passes, stepOneOf}
@@ -30,28 +31,29 @@ use Rattle.rules.specs.StationLimits.{stationWithin}
 use Rattle.rules.specs.OwnHearing.{hearsItself}
 use Rattle.rules.specs.Refusing.{unless, byNumber}
 use Rattle.rules.specs.StationCalls.{isFree, withCondition, noStation, takingNumberOf}
-use Rattle.channel_rules.specs.Soundness.{tableCounters, recordsWithin, soundTable}
-use Rattle.channel_rules.specs.ChannelCalls.{Channel, ChannelResult, blankRow, hasStations, refused, positionOf, stationOf, takenAt, channelOfferNumberOf, channelOfferOf, heardRow, feedbackHeard, slotsOf, slotsHeard, outcomeHeard, newRow, dataSent, sentOf, loneIndex, loneSegment, deliveredNow, slotAnswer, slotThrough, channelSlotNumberOf, channelSlotOf, channelCall}
+use Rattle.channel_rules.specs.Soundness.{tableCounters, recordsWithin, positionOf, soundTable}
+use Rattle.channel_rules.specs.ChannelCalls.{Channel, ChannelResult, blankRow, hasStations, refused, stationOf, takenAt, channelOfferNumberOf, channelOfferOf, heardRow, feedbackHeard, slotsOf, slotsHeard, outcomeHeard, newRow, dataSent, sentOf, deliveredNow, slotAnswer, slotThrough, channelSlotNumberOf, channelSlotOf, channelCall}
 use Rattle.rules.specs.declared.Answer.the-variants.{Refused, Taken}
-use Rattle.rules.specs.Calls.{Start, index, Call, Offer, Slot}
-use Rattle.rules.specs.Plain.{Plain, plainSettled, stationFrom, inRange}
+use Rattle.rules.specs.Calls.{Start, index, Call, Offer, Slot, Calendar}
+use Rattle.rules.specs.Plain.{Plain, plainOwner, plainSettled, stationFrom, inRange}
 use Rattle.rules.proofs.QueueingLaws.{fits-cond}
 use Rattle.rules.proofs.Views.{Sender, eqb-self}
-use Rattle.rules.proofs.Clauses.{asks, serves, requestSender}
-use Rattle.rules.proofs.Shared.{Table, gather, askedSender, senderIf, tableRefuse, tableAccept, tableOffer, tableRow, tablePlaces, tableSuccess, tableWent, tableSends, tableAnswer, tableSlot, tableSettled, tableCall, tableCondition}
+use Rattle.rules.proofs.Clauses.{asks, heeded, serves, ownedOr, requestSender}
+use Rattle.rules.proofs.Shared.{Table, gather, askedSender, senderIf, tableRefuse, tableAccept, tableOffer, tableRow, tablePlaces, tableSuccess, tableOwner, tableWent, tableSends, tableAnswer, tableSlot, tableSettled, tableCall, tableCondition}
 use Rattle.rules.proofs.Relation.{Fits, Same}
 use Rattle.rules.proofs.ServeViews.{asks-fits}
-use Rattle.rules.proofs.SlotStep.{and-both, went-cong, settled-eq, turn-eq, settled-fits, senders-eq}
+use Rattle.rules.proofs.SlotStep.{and-both, went-cong, owner-eq, settled-eq, turn-eq, segmentsSent, settled-fits, senders-eq}
 use Rattle.rules.proofs.CallStep.{is-free, picks-ok}
 use Rattle.channel_rules.proofs.Requested.{wire-here, wire-far}
 use Rattle.rules.proofs.WireRows.{AsksOnce, minislotRow, length-row, take-row, row-cong, row-reads, heard-number, heard-feedbacks}
 use Rattle.rules.proofs.OwnHears.{hears-row}
-use Rattle.rules.proofs.Walking.{IsStation, AreStations, get-set, tableQueued, tableSettledBy, queued-is, success-is, slot-passes, offer-is}
-use Rattle.channel_rules.proofs.EmbodySlot.{asData, Through, AllThrough, walk-are, data-are, row-are}
+use Rattle.rules.proofs.Walking.{IsStation, AreStations, get-set, tableQueued, tableSettledBy, queued-is, owner-is, success-is, slot-passes, offer-is}
+use Rattle.channel_rules.proofs.EmbodySlot.{asData, sendersIn, Through, AllThrough, walk-are, data-are, row-are}
 use Rattle.channel_rules.proofs.Gathering.{slots-length}
 use Rattle.channel_rules.proofs.SoundTests.{sound-tests}
 use Rattle.channel_rules.proofs.SoundMeans.{all-at}
-use Rattle.channel_rules.proofs.Embody.{Embodies, Embodied, GoodStart, fits-placed, asks-once, set-self, positionIn, position-map, position-eq, picks-same, lone-index-is, lone-segment-is, one-served, both, names-are, feedback-is, station-at, same-length}
+use Rattle.channel_rules.proofs.Embody.{Embodies, Embodied, GoodStart, fits-placed, asks-once, set-self, positionIn, position-map, position-eq, picks-same, one-served, both, names-are, feedback-is, station-at, same-length}
+use Rattle.channel_rules.proofs.EmbodyCalendars.{TellsOf, tells-of, owner-station, as-plain, calendar-call}
 use Rattle.rules.specs.Outcome.{successes, outcomeBy, outcomeOf}
 
 module _ (S : Start) (G : GoodStart S) (p : Plain) (t : Table) (R : Same S p t) (ch : Channel) (E : Embodies S t ch) (sound : soundTable (ch .stations) (ch .wire) ≡ true) where
@@ -109,6 +111,10 @@ module _ (S : Start) (G : GoodStart S) (p : Plain) (t : Table) (R : Same S p t) 
   counted =
       rw heard-row (ap (placesAfter (tableCounters (ch .stations))) row-feedbacks)
       ∙ queued-is S t gl gh (tableRow S t) 0 (getD (ch .stations) 0 noStation) is-first
+
+  -- the coming slot's owner
+  pub owner-counted : ownerOf (tableCounters (ch .stations)) ≡ tableOwner t
+  owner-counted = owner-is S t gl gh (tableRow S t) 0 (getD (ch .stations) 0 noStation) is-first
 
   -- ---- each station hears itself as it must
 
@@ -191,33 +197,44 @@ module _ (S : Start) (G : GoodStart S) (p : Plain) (t : Table) (R : Same S p t) 
               rw (eqb-true g (t .next) e)
               (ap (λ (l : List Minislot). record { minislots = l })
               (row-cong (index S) (length (S .indexes)) _ _
-              (λ j k. sym (wire-here (tableSuccess t (tableRow S t)) (t .next) (tableRow S t) (tablePlaces t) (tableSettled S t) (pick k) j k (t .condition k))) 8 1))
+              (λ j k. sym (wire-here (tableSuccess t (tableRow S t)) (t .next) (tableRow S t) (tablePlaces t) (heeded (tableOwner t) (tableSettled S t .urgent)) (heeded (tableOwner t) (tableSettled S t .long)) (tableSettled S t .resolution) (pick k) j k (t .condition k))) 8 1))
           go false e =
               E .wire g lo hi
               ∙ ap (λ (l : List Minislot). record { minislots = l })
               (row-cong (index S) (length (S .indexes)) _ _
-              (λ j k. sym (wire-far (tableSuccess t (tableRow S t)) (t .next) (tableRow S t) (tablePlaces t) (tableSettled S t) (pick k) j k (t .condition k) g e)) 8 1)
+              (λ j k. sym (wire-far (tableSuccess t (tableRow S t)) (t .next) (tableRow S t) (tablePlaces t) (heeded (tableOwner t) (tableSettled S t .urgent)) (heeded (tableOwner t) (tableSettled S t .long)) (tableSettled S t .resolution) (pick k) j k (t .condition k) g e)) 8 1)
 
       abbrev senders : List Sender
       senders = gather (λ k. senderIf k (tableSends t (tableRow S t) (tableSuccess t (tableRow S t)) (tableSettled S t) k)) (length (S .indexes))
 
-      data-senders : dataSent results ≡ map (asData (index S)) senders
+      data-senders : dataSent results
+          ≡ map (asData (index S))
+          (gather (λ k. sendersIn (tableOwner t) (index S) k (tableSends t (tableRow S t) (tableSuccess t (tableRow S t)) (tableSettled S t) k)) (length (S .indexes)))
       data-senders = data-are S t gl gh (wordsOf wireRow) (countsOf wireRow) (tableRow S t) pick 0 (ch .stations) picks el ep (E .stations) through ∙ rw (same-length S t ch E)
 
-      count-senders : length (dataSent results) ≡ length senders
-      count-senders = ap length data-senders ∙ length-map senders (asData (index S))
+      tells : TellsOf (tableOwner t) (index S) (length (S .indexes)) (tableSends t (tableRow S t) (tableSuccess t (tableRow S t)) (tableSettled S t)) (dataSent results)
+      tells =
+          tells-of (tableOwner t) (index S) (length (S .indexes)) (G .indexes) (owner-station S p t R)
+          (tableSends t (tableRow S t) (tableSuccess t (tableRow S t)) (tableSettled S t)) (dataSent results) data-senders
 
-      delivered : deliveredNow (turnOf (tableSettled S t)) (length senders) ≡ serves (tableSettled S t .urgent) (tableSettled S t .long)
+      delivered : deliveredNow (turnOf (tableOwner t) (tableSettled S t)) (ownedOr (tableOwner t) (λ i. 1) (length senders))
+          ≡ serves (heeded (tableOwner t) (tableSettled S t .urgent)) (heeded (tableOwner t) (tableSettled S t .long))
       delivered =
-          ap (deliveredNow (turnOf (tableSettled S t))) (sym (senders-eq S pick jl jh p t R))
-          ∙ rw (settled-eq S p t R, turn-eq (plainSettled p .urgent) (plainSettled p .long) (plainSettled p .resolution))
-          (one-served (plainSettled p .urgent) (plainSettled p .long) (plainSettled p .resolution) (p .fresh))
+          ap (λ (n : ℕ). deliveredNow (turnOf (tableOwner t) (tableSettled S t)) (ownedOr (tableOwner t) (λ i. 1) n)) (sym (senders-eq S pick jl jh p t R))
+          ∙ rw (
+            settled-eq S p t R,
+            owner-eq S p t R,
+            turn-eq (plainOwner p) (plainSettled p .urgent) (plainSettled p .long) (plainSettled p .resolution),
+            as-plain (plainOwner p) (segmentsSent p),
+          )
+          (one-served (plainOwner p) (plainSettled p .urgent) (plainSettled p .long) (plainSettled p .resolution) (p .fresh))
 
       answer-is : slotAnswer (outcomeOf (tableCounters (ch .stations)) (tableRow S t)) (sentOf results) ≡ tableAnswer S t (tableRow S t) (tableSuccess t (tableRow S t)) (tableSettled S t)
       unfolding outcomeBy stepOneOf
       answer-is =
-          went-cong (ap turnOf queued) count-senders (ap loneIndex data-senders ∙ lone-index-is (index S) senders) (ap loneSegment data-senders ∙ lone-segment-is (index S) senders)
-          (rw (success-is S t gl gh (tableRow S t) 0 (getD (ch .stations) 0 noStation) is-first, queued, count-senders) (ap (λ (n : ℕ). successes (tableSuccess t (tableRow S t)) (tableRow S t) + n) delivered))
+          went-cong (rw (queued, owner-counted)) (tells .number) (tells .index) (tells .segment)
+          (rw (success-is S t gl gh (tableRow S t) 0 (getD (ch .stations) 0 noStation) is-first, queued, owner-counted, tells .number)
+          (ap (λ (n : ℕ). successes (tableSuccess t (tableRow S t)) (tableRow S t) + n) delivered))
         where
           queued : placesAfter (tableCounters (ch .stations)) (tableRow S t) ≡ tableSettled S t
           queued = queued-is S t gl gh (tableRow S t) 0 (getD (ch .stations) 0 noStation) is-first
@@ -311,6 +328,8 @@ module _ (S : Start) (G : GoodStart S) (p : Plain) (t : Table) (R : Same S p t) 
           arrays = a .arrays;
           resolution = a .resolution;
           mark = a .mark;
+          calendar = a .calendar;
+          position = a .position;
           condition = e;
         }
 
@@ -385,3 +404,4 @@ module _ (S : Start) (G : GoodStart S) (p : Plain) (t : Table) (R : Same S p t) 
   pub call-embodied : (c : Call) → Embodied S (tableCall S t c) (channelCall ch c)
   call-embodied (Offer x bytes) = offer-call x bytes
   call-embodied (Slot picks) = slot-call picks
+  call-embodied (Calendar entries) = calendar-call S t ch E entries here sound

@@ -1,8 +1,9 @@
 -- A slot of the channel beside the shared table's: each station's slot goes through, the records after are the table's, the new row is what they request,
 -- and the data senders are the table's. Assumes nothing.
 use mathlib.Core.Path.{_≡_, refl, sym, ap, subst, _∙_}
-use mathlib.Core.Bool.{Bool, true, false, _&&_}
+use mathlib.Core.Bool.{Bool, true, false, _&&_, cond}
 use mathlib.Core.List.{List, [], _∷_, map, map-append}
+use mathlib.Core.Option.{Option, none, some}
 use Prim.Native.Nat.{ℕ, zero, suc, _+_, _-_, _≤_, _<_}
 use native.Mathlib.Omega.{arith}
 use lib.Dec.{eqb, ltb}
@@ -14,16 +15,20 @@ use Rattle.rules.specs.declared.StationSlot.{StationSlot}
 use Rattle.listlaws.specs.Lists.{onlyIf}
 use Rattle.rules.specs.declared.Condition.{Condition}
 use Rattle.rules.specs.declared.Condition.the-variants.{Free, Fresh, Asked, Resolving, Urgent, Long}
+use Rattle.rules.specs.declared.Places.{Places}
+use Rattle.rules.specs.declared.Turn.the-variants.{Urgent as UrgentTurn, Long as LongTurn, Resolve as ResolveTurn, Open as OpenTurn}
+use Rattle.rules.specs.Turns.{turnOf}
 use Rattle.rules.specs.Requesting.{requests, totalOf}
 use Rattle.rules.specs.StationCalls.{slotOf}
-use Rattle.channel_rules.specs.ChannelCalls.{slotsOf, requestIn, requestsIn, newRow, DataSent, dataIn, dataSent}
+use Rattle.channel_rules.specs.ChannelCalls.{slotsOf, requestIn, requestsIn, newRow, DataSent, speaks, dataIn, dataSent}
 use Rattle.rules.specs.Calls.{Start, index}
 use Rattle.rules.proofs.Views.{Sender, senderAt}
-use Rattle.rules.proofs.Clauses.{asks, falls, front, requestSender}
+use Rattle.rules.proofs.Clauses.{heeded, asks, falls, front, sendsIn, requestSender}
 use Rattle.rules.proofs.ClauseLaws.{Placed}
-use Rattle.rules.proofs.Shared.{Table, collect, senderIf, tableSuccess, tableWent, tableSends}
+use Rattle.rules.proofs.Shared.{Table, collect, senderIf, tableSuccess, tableOwner, tableWent, tableSends}
 use Rattle.rules.proofs.WireRows.{asRequest, minislotRow}
-use Rattle.rules.proofs.Walking.{IsStation, AreStations, tableQueued, tableSettledBy, queued-is, settled-is, sent-is, station-is}
+use Rattle.rules.proofs.Walking.{IsStation, AreStations, tableQueued, tableSettledBy, queued-is, owner-is, settled-is, sent-is, station-is}
+use Rattle.channel_rules.proofs.Calendared.{ownerSends}
 use Rattle.rules.specs.Stepping.{requestMinislot}
 use Rattle.rules.proofs.Settled.{requesting, stationAfter, wentBy}
 
@@ -63,6 +68,28 @@ asData ix s = record { index = ix (s .position); segment = s .value }
 data-is : (ix : ℕ → ℕ) (k v : ℕ) → onlyIf (ltb 0 v) (record { index = ix k; segment = v } ∷ []) ≡ map (asData ix) (senderIf k v)
 data-is ix k zero = refl
 data-is ix k (suc v) = rw (lt-ltb 0 (suc v) (omega arith))
+
+-- in a slot that nobody owns whoever has a segment sends
+speaks-queued : (c : Places) (i v : ℕ) → speaks (turnOf none c) i v ≡ ltb 0 v
+unfolding turnOf
+speaks-queued c i v = go (ltb 0 (c .urgent)) (ltb 0 (c .long)) (ltb 0 (c .resolution))
+  where
+    go : (a b d : Bool) → speaks (cond a UrgentTurn (cond b LongTurn (cond d ResolveTurn OpenTurn))) i v ≡ ltb 0 v
+    go true b d = refl
+    go false true d = refl
+    go false false true = refl
+    go false false false = refl
+
+-- who sends data, by the slot's owner: the segment of a station's message, or the owner's stream
+abbrev pub sendersIn : Option ℕ → (ℕ → ℕ) → ℕ → ℕ → List Sender
+sendersIn none ix k v = senderIf k v
+sendersIn (some x) ix k v = ownerSends ix x k
+
+data-by : (o : Option ℕ) (ix : ℕ → ℕ) (k h n r : ℕ) (d : Places) (c : Condition)
+    → onlyIf (speaks (turnOf o d) (ix k) (sendsIn o h n r c)) (record { index = ix k; segment = sendsIn o h n r c } ∷ []) ≡ map (asData ix) (sendersIn o ix k (sendsIn o h n r c))
+unfolding turnOf
+data-by none ix k h n r d c = rw (speaks-queued d (ix k) (sendsIn none h n r c)) (data-is ix k (sendsIn none h n r c))
+data-by (some x) ix k h n r d c = map-if (asData ix) (eqb (ix k) x) (senderAt k 0)
 
 -- ---- all stations
 
@@ -104,17 +131,17 @@ module _ (S : Start) (t : Table) (gl : 1 ≤ t .next) (gh : t .next ≤ 8) (word
         ≡ map (asRequest (index S)) (requestSender (tableQueued t heard .resolution) (t .next) (pick j) i j (tableSettledBy t heard j)))
         (sym (is .condition))
         (rw (is .index, queued-is S t gl gh heard j s a, settled-is S t gl gh heard j s a (w .before), a .next)
-        (request-is (index S) (tableQueued t heard .urgent) (tableQueued t heard .long) (t .next) (pick j) i j lo (tableQueued t heard .resolution) (tableSettledBy t heard j)))
+        (request-is (index S) (heeded (tableOwner t) (tableQueued t heard .urgent)) (heeded (tableOwner t) (tableQueued t heard .long)) (t .next) (pick j) i j lo (tableQueued t heard .resolution) (tableSettledBy t heard j)))
       where
         is : IsStation S (tableWent S pick t heard (tableSuccess t heard) (tableQueued t heard)) j (stationAfter s heard (pick j))
         is = station-is S t gl gh heard j s a (w .before) pick (w .settled) (w .asked)
 
     data-of : dataIn (slotOf s words counts (pick j)) (slotOf s words counts (pick j) .answer)
-        ≡ map (asData (index S)) (senderIf j (tableSends t heard (tableSuccess t heard) (tableQueued t heard) j))
+        ≡ map (asData (index S)) (sendersIn (tableOwner t) (index S) j (tableSends t heard (tableSuccess t heard) (tableQueued t heard) j))
     data-of =
         ap (λ (r : StationSlot). dataIn r (r .answer)) (w .slot)
-        ∙ rw (is .index, sent-is S t gl gh heard j s a (w .before) (w .settled))
-        (data-is (index S) j (tableSends t heard (tableSuccess t heard) (tableQueued t heard) j))
+        ∙ rw (is .index, sent-is S t gl gh heard j s a (w .before) (w .settled), owner-is S t gl gh heard j s a)
+        (data-by (tableOwner t) (index S) j (tableQueued t heard .urgent) (tableQueued t heard .long) (tableQueued t heard .resolution) _ (tableSettledBy t heard j))
       where
         is : IsStation S (tableWent S pick t heard (tableSuccess t heard) (tableQueued t heard)) j (stationAfter s heard (pick j))
         is = station-is S t gl gh heard j s a (w .before) pick (w .settled) (w .asked)
@@ -138,12 +165,12 @@ module _ (S : Start) (t : Table) (gl : 1 ≤ t .next) (gh : t .next ≤ 8) (word
 
   pub data-are : (j : ℕ) (l : List Station) (picks : List ℕ) → length picks ≡ length l → Picks j picks → AreStations S t j l → AllThrough j l
       → dataSent (slotsOf words counts l picks)
-      ≡ map (asData (index S)) (collect (λ k. senderIf k (tableSends t heard (tableSuccess t heard) (tableQueued t heard) k)) (length l) j)
+      ≡ map (asData (index S)) (collect (λ k. sendersIn (tableOwner t) (index S) k (tableSends t heard (tableSuccess t heard) (tableQueued t heard) k)) (length l) j)
   data-are j [] picks e w a th = refl
   data-are j (s ∷ l) [] e w a th = absurd (omega arith)
   data-are j (s ∷ l) (x ∷ picks) e w a th =
       rw (picks-first j x picks w, data-of j s (a .0) (th .0), data-are (suc j) l picks (omega arith) (picks-rest j x picks w) (a .1) (th .1))
-      (sym (map-append (asData (index S)) (senderIf j (tableSends t heard (tableSuccess t heard) (tableQueued t heard) j)) _))
+      (sym (map-append (asData (index S)) (sendersIn (tableOwner t) (index S) j (tableSends t heard (tableSuccess t heard) (tableQueued t heard) j)) _))
 
   -- the new row
   pub row-are : (l : List Station) (picks : List ℕ) → length picks ≡ length l → Picks 0 picks → AreStations S t 0 l → AllThrough 0 l → (n i : ℕ) → 1 ≤ i

@@ -1,6 +1,6 @@
 -- What follows of the relation in every state: the messages, the senders, the totals, the wire, in the words of the statement. Assumes nothing.
 use mathlib.Core.Path.{_≡_, refl, sym, ap, subst, _∙_}
-use mathlib.Core.Bool.{Bool, true, false, cond}
+use mathlib.Core.Bool.{Bool, true, false, _&&_, cond}
 use mathlib.Core.List.{List, [], _∷_, _++_, map, List·Memᴰ, List·Memᴰ·head, List·Memᴰ·tail, List·Memᴰ·cases-cons, List·Memᴰ·not-nil}
 use mathlib.Core.Logic.{_⊎_, ⊎-elim, by-cases}
 use mathlib.Core.Option.{Option, none, some}
@@ -17,9 +17,9 @@ use Rattle.listlaws.specs.Lists.{sumOf, countOf, keepIf}
 use Rattle.rules.specs.declared.Turn.{Turn}
 use Rattle.rules.specs.Serving.{waiting}
 use Rattle.rules.specs.declared.Answer.the-variants.{Refused, Went}
-use Rattle.rules.specs.Calls.{Start, index, Call, Offer, Slot}
+use Rattle.rules.specs.Calls.{Start, index, Call, Offer, Slot, Calendar}
 use Rattle.rules.specs.Messages.{Message, Segment, segment, of}
-use Rattle.rules.specs.Plain.{Plain, PlainResult, Queues, plainSettled, overflows, sent, plainCall, plainSlot, plainOffer, plainAnswers, plainRefuse, plainAccept, waits, stationFrom, inRange, joinAlone, joinMinislot, joinRow, plainSuccess, queuesOf, served, slotSum, plainAfter}
+use Rattle.rules.specs.Plain.{Plain, PlainResult, Queues, plainOwner, plainSettled, overflows, sent, plainSenders, plainLoneIndex, plainLoneSegment, plainSet, among, onChannel, plainCall, plainSlot, plainOffer, plainAnswers, plainRefuse, plainAccept, waits, stationFrom, inRange, joinAlone, joinMinislot, joinRow, plainSuccess, queuesOf, served, slotSum, plainAfter}
 use Rattle.channel_rules.specs.Demand3.{requestOf, noMessage, isRefusal, takenIn, deliveredIn, SendersAre}
 use Rattle.rules.proofs.Views.{Sender, requestFrom, dataFrom, seen, eqb-self, nil-cons}
 use Rattle.rules.proofs.Shared.{Table, gather, askedSender}
@@ -100,35 +100,48 @@ wire-shows S p t R g i =
 
 -- ---- senders
 
-senders-are : (u : List Message) (l : List Segment) (r : List (List Message)) (f : List Message)
-    → SendersAre (record { urgent = length u; long = length l; resolution = length r }) (length (sent u l r f))
-senders-are (x ∷ u) l r f = record { urgent = λ h. refl; long = λ h. refl; resolve = λ a b h. absurd (omega arith) }
-senders-are [] (y ∷ l) r f = record { urgent = λ h. absurd (omega arith); long = λ h. refl; resolve = λ a b h. absurd (omega arith) }
-senders-are [] [] (x ∷ r) f = record { urgent = λ h. absurd (omega arith); long = λ h. absurd (omega arith); resolve = λ a b h. refl }
-senders-are [] [] [] f = record { urgent = λ h. absurd (omega arith); long = λ h. absurd (omega arith); resolve = λ a b h. absurd (omega arith) }
+some-none : {P : Type 0} {x : ℕ} → some x ≡ none → P
+some-none e = let z : _≡_ {A = ℕ} 0 1 = cc in absurd (omega arith)
+
+none-some : {P : Type 0} {x : ℕ} → none ≡ some x → P
+none-some e = let z : _≡_ {A = ℕ} 0 1 = cc in absurd (omega arith)
+
+senders-are : (S : Start) (o : Option ℕ) (u : List Message) (l : List Segment) (r : List (List Message)) (f : List Message)
+    → SendersAre o (record { urgent = length u; long = length l; resolution = length r }) (plainSenders o (sent o u l r f)) (plainLoneIndex S o (sent o u l r f)) (plainLoneSegment (sent o u l r f))
+senders-are S (some x) u l r f =
+    record { owned = λ y e. (refl, (let z : x ≡ y = cc in z), refl); urgent = λ e h. some-none e; long = λ e h. some-none e; resolve = λ e a b h. some-none e }
+senders-are S none (x ∷ u) l r f = record { owned = λ y e. none-some e; urgent = λ e h. refl; long = λ e h. refl; resolve = λ e a b h. absurd (omega arith) }
+senders-are S none [] (y ∷ l) r f = record { owned = λ y e. none-some e; urgent = λ e h. absurd (omega arith); long = λ e h. refl; resolve = λ e a b h. absurd (omega arith) }
+senders-are S none [] [] (x ∷ r) f = record { owned = λ y e. none-some e; urgent = λ e h. absurd (omega arith); long = λ e h. absurd (omega arith); resolve = λ e a b h. refl }
+senders-are S none [] [] [] f =
+    record { owned = λ y e. none-some e; urgent = λ e h. absurd (omega arith); long = λ e h. absurd (omega arith); resolve = λ e a b h. absurd (omega arith) }
 
 -- a refusal is no answer of a slot that went through
 refused-went : {P : Type 0} {turn : Turn} {k n i s d : ℕ} → Refused k ≡ Went turn n i s d → P
 refused-went e = let z : _≡_ {A = ℕ} 0 1 = cc in absurd (omega arith)
 
--- the senders that the plain channel's answer names
-went-senders : (S : Start) (p : Plain) (picks : List ℕ) (turn : Turn) (n i s d : ℕ) → plainCall S p (Slot picks) .answer ≡ Went turn n i s d → length (segmentsSent p) ≡ n
+-- what the plain channel's answer names: the number of senders, and the index and segment of a lone one
+went-senders : (S : Start) (p : Plain) (picks : List ℕ) (turn : Turn) (n i s d : ℕ) → plainCall S p (Slot picks) .answer ≡ Went turn n i s d
+    → (plainSenders (plainOwner p) (segmentsSent p) ≡ n) × (plainLoneIndex S (plainOwner p) (segmentsSent p) ≡ i) × (plainLoneSegment (segmentsSent p) ≡ s)
 went-senders S p picks turn n i s d = go (eqb (length picks) (length (S .indexes))) (inRange (S .m) picks) (overflows (plainSettled p))
   where
-    go : (a b c : Bool) → cond a (cond b (cond c (plainRefuse p 7) (plainSlot S (λ k. getD picks k 1) p)) (plainRefuse p 11)) (plainRefuse p 17) .answer ≡ Went turn n i s d → length (segmentsSent p) ≡ n
+    go : (a b c : Bool) → cond a (cond b (cond c (plainRefuse p 7) (plainSlot S (λ k. getD picks k 1) p)) (plainRefuse p 11)) (plainRefuse p 17) .answer ≡ Went turn n i s d
+        → (plainSenders (plainOwner p) (segmentsSent p) ≡ n) × (plainLoneIndex S (plainOwner p) (segmentsSent p) ≡ i) × (plainLoneSegment (segmentsSent p) ≡ s)
     go true true true = refused-went
-    go true true false = λ e. cc
+    go true true false = λ e. (cc, cc, cc)
     go true false c = refused-went
     go false b c = refused-went
 
-pub sender-rule : (S : Start) (p : Plain) (picks : List ℕ) (turn : Turn) (n i s d : ℕ) → plainCall S p (Slot picks) .answer ≡ Went turn n i s d → SendersAre (lengths (plainSettled p)) n
+pub sender-rule : (S : Start) (p : Plain) (picks : List ℕ) (turn : Turn) (n i s d : ℕ) → plainCall S p (Slot picks) .answer ≡ Went turn n i s d
+    → SendersAre (plainOwner p) (lengths (plainSettled p)) n i s
 sender-rule S p picks turn n i s d e =
-    subst (SendersAre (lengths (plainSettled p))) (went-senders S p picks turn n i s d e)
-    (senders-are (plainSettled p .urgent) (plainSettled p .long) (plainSettled p .resolution) (p .fresh))
+    let (a, b, c) = went-senders S p picks turn n i s d e in
+    rw (← a, ← b, ← c) (senders-are S (plainOwner p) (plainSettled p .urgent) (plainSettled p .long) (plainSettled p .resolution) (p .fresh))
 
 -- ---- numbers that never come
 
-module _ (x : ℕ) (e7 : eqb 7 x ≡ false) (e9 : eqb 9 x ≡ false) (e10 : eqb 10 x ≡ false) (e11 : eqb 11 x ≡ false) (e16 : eqb 16 x ≡ false) (e17 : eqb 17 x ≡ false) where
+module _ (x : ℕ) (e7 : eqb 7 x ≡ false) (e9 : eqb 9 x ≡ false) (e10 : eqb 10 x ≡ false) (e11 : eqb 11 x ≡ false) (e16 : eqb 16 x ≡ false) (e17 : eqb 17 x ≡ false)
+    (e20 : eqb 20 x ≡ false) (e21 : eqb 21 x ≡ false) where
   never-call : (S : Start) (p : Plain) (c : Call) → isRefusal x (plainCall S p c .answer) ≡ false
   never-call S p (Offer i bytes) = at (stationFrom 0 (S .indexes) i)
     where
@@ -147,6 +160,12 @@ module _ (x : ℕ) (e7 : eqb 7 x ≡ false) (e9 : eqb 9 x ≡ false) (e10 : eqb 
       go true true false = refl
       go true false c = e11
       go false b c = e17
+  never-call S p (Calendar entries) = go (eqb (length entries) 24 && onChannel (S .indexes) entries) (among entries 65535)
+    where
+      go : (a b : Bool) → isRefusal x ((cond a (cond b (plainSet p entries) (plainRefuse p 21)) (plainRefuse p 20)) .answer) ≡ false
+      go true true = refl
+      go true false = e21
+      go false b = e20
 
   pub never-comes : (S : Start) (p : Plain) (calls : List Call) → countOf (isRefusal x) (plainAnswers S p calls) ≡ 0
   never-comes S p [] = refl
@@ -185,6 +204,9 @@ booked-if p false x y a c = c
 booked-accept : (p : Plain) (m : Message) → Booked p (plainAccept p m)
 booked-accept p m = record { taken = sum-append (p .taken) (m ∷ []) ∙ omega arith; delivered = omega arith }
 
+booked-set : (p : Plain) (entries : List ℕ) → Booked p (plainSet p entries)
+booked-set p entries = record { taken = omega arith; delivered = omega arith }
+
 booked-slot : (S : Start) (pick : ℕ → ℕ) (p : Plain) → Booked p (plainSlot S pick p)
 booked-slot S pick p =
     record {
@@ -193,7 +215,7 @@ booked-slot S pick p =
           omega (
             arith,
             row-longer (plainSuccess (p .group (p .next))) (p .group (p .next) .asking) (queuesOf p (p .group (p .next))),
-            length-append (plainSettled p .history) (served (plainSettled p .urgent) (plainSettled p .long)),
+            length-append (plainSettled p .history) (served (plainOwner p) (plainSettled p .urgent) (plainSettled p .long)),
           );
     }
 
@@ -207,6 +229,8 @@ booked-call S p (Slot picks) =
     booked-if p (eqb (length picks) (length (S .indexes))) _ _
     (booked-if p (inRange (S .m) picks) _ _ (booked-if p (overflows (plainSettled p)) _ _ (booked-refused p 7) (booked-slot S (λ k. getD picks k 1) p)) (booked-refused p 11))
     (booked-refused p 17)
+booked-call S p (Calendar entries) =
+    booked-if p (eqb (length entries) 24 && onChannel (S .indexes) entries) _ _ (booked-if p (among entries 65535) _ _ (booked-set p entries) (booked-refused p 21)) (booked-refused p 20)
 
 -- every list
 pub books-taken : (S : Start) (calls : List Call) (p : Plain) → slotSum (plainAfter S p calls .taken) ≡ slotSum (p .taken) + sumOf takenIn (plainAnswers S p calls)

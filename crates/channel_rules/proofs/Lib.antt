@@ -4,12 +4,15 @@ pub mod ListStep
 pub mod Histories
 pub mod Mixing
 pub mod Requested
+pub mod OwnersMean
+pub mod Calendared
 pub mod EmbodySlot
 pub mod Embody
 pub mod SoundTests
 pub mod SoundLists
 pub mod SoundMeans
 pub mod Gathering
+pub mod EmbodyCalendars
 pub mod EmbodyCalls
 pub mod Sounding
 pub mod SoundKept

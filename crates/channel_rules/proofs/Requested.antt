@@ -5,19 +5,15 @@ use mathlib.Core.Bool.{Bool, true, false, cond}
 use mathlib.Core.List.{List, [], _∷_}
 use Prim.Native.Nat.{ℕ, zero, suc, _-_}
 use native.Mathlib.Omega.{arith}
-use lib.ListN.{length}
 use Rattle.rules.proofs.SettleViews.{after-ind}
 use Rattle.rules.proofs.ServeViews.{asks-view, falls-view}
 use Rattle.minislot.specs.declared.Feedback.{Feedback}
-use Rattle.rules.proofs.Clauses.{after, settle, asks, front, falls, serves, requestSender}
+use Rattle.rules.proofs.Clauses.{after, settle, asks, front, falls, requestSender}
 use Rattle.rules.proofs.Shared.{askedSender}
 use Rattle.rules.proofs.Views.{senderAt, eqb-self}
 use Rattle.listlaws.specs.Lists.{onlyIf}
-use Rattle.rules.specs.Messages.{Message, Segment}
-use Rattle.rules.specs.Plain.{plainTurn, sent}
 use Rattle.rules.specs.declared.Condition.{Condition}
 use Rattle.rules.specs.declared.Condition.the-variants.{Free, Fresh, Asked, Resolving, Urgent, Long}
-use Rattle.rules.specs.declared.Turn.the-variants.{Open as OpenTurn}
 use Rattle.rules.specs.declared.Places.{Places}
 use borrow.Author.Tests.{eqb-true, ne-eqb, eqb-false}
 use lib.Dec.{eqb}
@@ -72,24 +68,17 @@ asked-asks (suc r) g pick j k (Urgent i) e = refl
 asked-asks (suc r) g pick j k (Long f l t) e = refl
 
 -- THE WIRE, station by station
-module _ (b : Bool) (g : ℕ) (row : List Feedback) (n : Places) (c₁ : Places) (pick j k : ℕ) (c : Condition) where
-  pub wire-here : askedSender g j k (falls (c₁ .urgent) (c₁ .long) (asks (c₁ .resolution) g pick (settle b g row n c))) ≡ requestSender (c₁ .resolution) g pick j k (settle b g row n c)
+module _ (b : Bool) (g : ℕ) (row : List Feedback) (n : Places) (h l r pick j k : ℕ) (c : Condition) where
+  pub wire-here : askedSender g j k (falls h l (asks r g pick (settle b g row n c))) ≡ requestSender r g pick j k (settle b g row n c)
   wire-here =
-      falls-view (askedSender g j k) (λ i. refl) (λ f l t. refl) (c₁ .urgent) (c₁ .long) (asks (c₁ .resolution) g pick (settle b g row n c))
-      ∙ asked-asks (c₁ .resolution) g pick j k (settle b g row n c) (asked-settled b g row n j k c)
+      falls-view (askedSender g j k) (λ i. refl) (λ f x t. refl) h l (asks r g pick (settle b g row n c))
+      ∙ asked-asks r g pick j k (settle b g row n c) (asked-settled b g row n j k c)
 
-  pub wire-far : (o : ℕ) → eqb o g ≡ false → askedSender o j k (falls (c₁ .urgent) (c₁ .long) (asks (c₁ .resolution) g pick (settle b g row n c))) ≡ askedSender o j k c
+  pub wire-far : (o : ℕ) → eqb o g ≡ false → askedSender o j k (falls h l (asks r g pick (settle b g row n c))) ≡ askedSender o j k c
   wire-far o ne =
-      falls-view (askedSender o j k) (λ i. refl) (λ f l t. refl) (c₁ .urgent) (c₁ .long) (asks (c₁ .resolution) g pick (settle b g row n c))
-      ∙ asks-view g pick (askedSender o j k) (λ t. rw far) (λ h t e. rw far) (λ h x t e. refl) (c₁ .resolution) (settle b g row n c)
+      falls-view (askedSender o j k) (λ i. refl) (λ f x t. refl) h l (asks r g pick (settle b g row n c))
+      ∙ asks-view g pick (askedSender o j k) (λ t. rw far) (λ x t e. rw far) (λ y x t e. refl) r (settle b g row n c)
       ∙ asked-far b g row n j k o ne c
     where
       far : eqb g o ≡ false
       far = ne-eqb g o (λ w. eqb-false o g ne (sym w))
-
--- exactly one station sends on an urgent or long turn, none on a resolve turn
-pub lone-sender : (u : List Message) (l : List Segment) (r : List (List Message)) (f : List Message) → (plainTurn u l r ≡ OpenTurn → ⊥) → length (sent u l r f) ≡ serves (length u) (length l)
-lone-sender (x ∷ u) l r f h = refl
-lone-sender [] (y ∷ l) r f h = refl
-lone-sender [] [] (x ∷ r) f h = refl
-lone-sender [] [] [] f h = absurd (h refl)

@@ -2,7 +2,8 @@
 use mathlib.Core.Path.{_≡_, refl, sym, ap, subst, _∙_}
 use mathlib.Core.Bool.{Bool, true, false, cond, _&&_}
 use mathlib.Core.List.{List, [], _∷_, map, map-append}
-use Prim.Native.Nat.{ℕ, zero, suc, _+_, _-_, _≤_, _<_}
+use mathlib.Core.Option.{some}
+use Prim.Native.Nat.{ℕ, zero, suc, _+_, _-_, _%_, _≤_, _<_}
 use native.Mathlib.Omega.{arith}
 use native.Mathlib.Nat.{zero-add}
 use lib.Dec.{eqb, leb, ltb}
@@ -13,13 +14,14 @@ use Rattle.requests.specs.Together.{Request, carries, silent, together}
 use Rattle.rules.specs.declared.Station.{Station}
 use Rattle.rules.specs.declared.WireRow.{WireRow}
 use Rattle.listlaws.specs.Lists.{onlyIf}
+use Rattle.rules.specs.Calendars.{freeEntry, ownerIn, calendarWithin, entriesWithin}
 use Rattle.rules.specs.Limits.{resolutionWithin, openedWithin, groupsWithin, withinLimits, between}
 use Rattle.rules.specs.declared.Condition.{Condition}
 use Rattle.rules.specs.declared.Condition.the-variants.{Free, Fresh, Asked, Resolving, Urgent, Long}
 use Rattle.rules.specs.StationLimits.{conditionWithin, stationWithin}
 use Rattle.channel_rules.specs.Soundness.{messagesOf, askedRequest, askedRequests, askedMinislot, soundTable}
 use Rattle.channel_rules.specs.ChannelCalls.{Channel}
-use Rattle.channel_rules.specs.SoundMeaning.{atUrgent, coversLong, atResolving, stationAt, howMany, Sound}
+use Rattle.channel_rules.specs.SoundMeaning.{atUrgent, coversLong, atResolving, stationAt, howMany, HasStation, Sound}
 use Rattle.rules.specs.Calls.{Start, index}
 use Rattle.rules.specs.Plain.{Plain}
 use Rattle.rules.proofs.Views.{Sender, senderAt, eqb-sym}
@@ -33,6 +35,8 @@ use Rattle.channel_rules.proofs.EmbodySlot.{map-if}
 use Rattle.channel_rules.proofs.Embody.{Embodies, GoodStart, station-at, same-length}
 use Rattle.channel_rules.proofs.SoundLists.{counters-cong}
 use Rattle.channel_rules.proofs.SoundMeans.{says-sound}
+use Rattle.channel_rules.proofs.OwnersMean.{on-table}
+use Rattle.channel_rules.proofs.Calendared.{on-among, free-same, entries-within, owner-among}
 
 -- ---- counting stations is counting positions
 
@@ -135,11 +139,27 @@ module _ (S : Start) (G : GoodStart S) (p : Plain) (t : Table) (R : Same S p t) 
           from-holds (openedWithin (s .counters .groups)) false (s .counters .opened) 0 (λ i h. mark-within (0 + i) i (zero-add i) (omega (arith, a .arrays .1))),
         )
 
+    calendar-within : calendarWithin (s .counters) ≡ true
+    unfolding calendarWithin entriesWithin
+    calendar-within =
+        rw (
+          a .calendar,
+          a .position,
+          R .calendar,
+          R .position,
+          le-leb (p .slots % 24) 23 (omega arith),
+          eq-eqb (length (p .calendar)) 24 (R .size),
+          entries-within (S .indexes) (p .calendar) (G .indexes .below) (R .owners),
+          free-same (p .calendar),
+          R .free,
+        )
+
     limits-within : withinLimits (s .counters) ≡ true
     unfolding withinLimits
     limits-within =
         rw (
           groups-within,
+          calendar-within,
           a .minislots,
           a .groups,
           a .next,
@@ -175,9 +195,11 @@ module _ (S : Start) (G : GoodStart S) (p : Plain) (t : Table) (R : Same S p t) 
   counters-same i k x y a b =
       counters-cong (x .counters .minislots) (y .counters .minislots) (x .counters .groups) (y .counters .groups) (x .counters .next) (y .counters .next) (x .counters .urgent) (y .counters .urgent)
       (x .counters .long) (y .counters .long) (x .counters .resolution) (y .counters .resolution) (x .counters .opened) (y .counters .opened)
+      (x .counters .calendar) (y .counters .calendar) (x .counters .position) (y .counters .position)
       (a .minislots ∙ sym (b .minislots)) (a .groups ∙ sym (b .groups)) (a .next ∙ sym (b .next)) (a .urgent ∙ sym (b .urgent)) (a .long ∙ sym (b .long))
       (ext-getD 0 (x .counters .resolution) (y .counters .resolution) (a .arrays .0 ∙ sym (b .arrays .0)) (λ j h. rq-at i x a j (omega (arith, a .arrays .0)) ∙ sym (rq-at k y b j (omega (arith, a .arrays .0)))))
       (ext-getD false (x .counters .opened) (y .counters .opened) (a .arrays .1 ∙ sym (b .arrays .1)) (λ j h. mark-at i x a j (omega (arith, a .arrays .1)) ∙ sym (mark-at k y b j (omega (arith, a .arrays .1)))))
+      (a .calendar ∙ sym (b .calendar)) (a .position ∙ sym (b .position))
 
   -- ---- THE TABLE STAYS SOUND
 
@@ -206,8 +228,14 @@ module _ (S : Start) (G : GoodStart S) (p : Plain) (t : Table) (R : Same S p t) 
               ∙ ap (λ (n : ℕ). leaves (index S) (gather (λ k. askedSender g j k (t .condition k)) n)) (sym (same-length S t ch E))
               ∙ ap (λ (l : List Request). together (map carries l)) (sym (asked-are S t g j 0 (ch .stations) (E .stations)));
           size = (E .groups, λ g gl gh. ap (λ (r : WireRow). length (r .minislots)) (E .wire g gl gh) ∙ length-row (index S) (length (S .indexes)) (λ j k. askedSender g j k (t .condition k)) 8 1);
+          owners = λ i x h o. owner-at i x o;
         }
       where
+        owner-at : (i x : ℕ) → ownerIn (getD (stationAt (ch .stations) 0 .counters .calendar) i freeEntry) ≡ some x → HasStation (ch .stations) x
+        owner-at i x o =
+            on-table (ch .stations) x
+            (on-among (ch .stations) x ∙ rw (E .indexes) (owner-among (S .indexes) (p .calendar) (R .owners) i x (rw (is-first .calendar, R .calendar) at o)))
+
         urgent-at : (i : ℕ) → 1 ≤ i → i ≤ t .h → howMany (atUrgent i) (ch .stations) ≡ 1
         urgent-at zero lo hi = absurd (omega arith)
         urgent-at (suc i) lo hi = count-are S t (atUrgent (suc i)) (urgentHere (suc i)) (urgent-same (suc i)) 0 (ch .stations) (E .stations) ∙ rw (same-length S t ch E) (table .urgent i (omega arith))

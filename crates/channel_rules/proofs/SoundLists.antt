@@ -192,26 +192,51 @@ marks-self : (a : List Bool) → sameMarks a a ≡ true
 marks-self [] = refl
 marks-self (x ∷ a) = rw (beq-self x) (marks-self a)
 
-abbrev pub countersFrom : ℕ → ℕ → ℕ → ℕ → ℕ → List ℕ → List Bool → Counters
-countersFrom m n g h l r o = record { minislots = m; groups = n; next = g; urgent = h; long = l; resolution = r; opened = o }
+abbrev pub countersFrom : ℕ → ℕ → ℕ → ℕ → ℕ → List ℕ → List Bool → List ℕ → ℕ → Counters
+countersFrom m n g h l r o c p =
+    record { minislots = m; groups = n; next = g; urgent = h; long = l; resolution = r; opened = o; calendar = c; position = p }
 
-pub counters-cong : (m m′ n n′ g g′ h h′ l l′ : ℕ) (r r′ : List ℕ) (o o′ : List Bool) → m ≡ m′ → n ≡ n′ → g ≡ g′ → h ≡ h′ → l ≡ l′ → r ≡ r′ → o ≡ o′
-    → countersFrom m n g h l r o ≡ countersFrom m′ n′ g′ h′ l′ r′ o′
-counters-cong m m′ n n′ g g′ h h′ l l′ r r′ o o′ a b c d e f i = rw (a, b, c, d, e, f, i)
+pub counters-cong : (m m′ n n′ g g′ h h′ l l′ : ℕ) (r r′ : List ℕ) (o o′ : List Bool) (c c′ : List ℕ) (p p′ : ℕ)
+    → m ≡ m′ → n ≡ n′ → g ≡ g′ → h ≡ h′ → l ≡ l′ → r ≡ r′ → o ≡ o′ → c ≡ c′ → p ≡ p′
+    → countersFrom m n g h l r o c p ≡ countersFrom m′ n′ g′ h′ l′ r′ o′ c′ p′
+counters-cong m m′ n n′ g g′ h h′ l l′ r r′ o o′ c c′ p p′ q₁ q₂ q₃ q₄ q₅ q₆ q₇ q₈ q₉ = rw (q₁, q₂, q₃, q₄, q₅, q₆, q₇, q₈, q₉)
 
 pub counters-eq : (a b : Counters) → sameCounters a b ≡ true → a ≡ b
 unfolding sameCounters
 counters-eq a b e =
-    let x6 = and-both (eqb (a .minislots) (b .minislots) && eqb (a .groups) (b .groups) && eqb (a .next) (b .next) && eqb (a .urgent) (b .urgent) && eqb (a .long) (b .long) && sameNumbers (a .resolution) (b .resolution)) (sameMarks (a .opened) (b .opened)) e in
-    let x5 = and-both (eqb (a .minislots) (b .minislots) && eqb (a .groups) (b .groups) && eqb (a .next) (b .next) && eqb (a .urgent) (b .urgent) && eqb (a .long) (b .long)) (sameNumbers (a .resolution) (b .resolution)) (x6 .0) in
-    let x4 = and-both (eqb (a .minislots) (b .minislots) && eqb (a .groups) (b .groups) && eqb (a .next) (b .next) && eqb (a .urgent) (b .urgent)) (eqb (a .long) (b .long)) (x5 .0) in
-    let x3 = and-both (eqb (a .minislots) (b .minislots) && eqb (a .groups) (b .groups) && eqb (a .next) (b .next)) (eqb (a .urgent) (b .urgent)) (x4 .0) in
-    let x2 = and-both (eqb (a .minislots) (b .minislots) && eqb (a .groups) (b .groups)) (eqb (a .next) (b .next)) (x3 .0) in
-    let x1 = and-both (eqb (a .minislots) (b .minislots)) (eqb (a .groups) (b .groups)) (x2 .0) in
+    let t₁ = eqb (a .minislots) (b .minislots) in
+    let t₂ = eqb (a .groups) (b .groups) in
+    let t₃ = eqb (a .next) (b .next) in
+    let t₄ = eqb (a .urgent) (b .urgent) in
+    let t₅ = eqb (a .long) (b .long) in
+    let t₆ = sameNumbers (a .resolution) (b .resolution) in
+    let t₇ = sameMarks (a .opened) (b .opened) in
+    let t₈ = sameNumbers (a .calendar) (b .calendar) in
+    let x8 = and-both (t₁ && t₂ && t₃ && t₄ && t₅ && t₆ && t₇ && t₈) (eqb (a .position) (b .position)) e in
+    let x7 = and-both (t₁ && t₂ && t₃ && t₄ && t₅ && t₆ && t₇) t₈ (x8 .0) in
+    let x6 = and-both (t₁ && t₂ && t₃ && t₄ && t₅ && t₆) t₇ (x7 .0) in
+    let x5 = and-both (t₁ && t₂ && t₃ && t₄ && t₅) t₆ (x6 .0) in
+    let x4 = and-both (t₁ && t₂ && t₃ && t₄) t₅ (x5 .0) in
+    let x3 = and-both (t₁ && t₂ && t₃) t₄ (x4 .0) in
+    let x2 = and-both (t₁ && t₂) t₃ (x3 .0) in
+    let x1 = and-both t₁ t₂ (x2 .0) in
     counters-cong (a .minislots) (b .minislots) (a .groups) (b .groups) (a .next) (b .next) (a .urgent) (b .urgent) (a .long) (b .long) (a .resolution) (b .resolution) (a .opened) (b .opened)
+    (a .calendar) (b .calendar) (a .position) (b .position)
     (eqb-true (a .minislots) (b .minislots) (x1 .0)) (eqb-true (a .groups) (b .groups) (x1 .1)) (eqb-true (a .next) (b .next) (x2 .1)) (eqb-true (a .urgent) (b .urgent) (x3 .1))
     (eqb-true (a .long) (b .long) (x4 .1)) (numbers-eq (a .resolution) (b .resolution) (x5 .1)) (marks-eq (a .opened) (b .opened) (x6 .1))
+    (numbers-eq (a .calendar) (b .calendar) (x7 .1)) (eqb-true (a .position) (b .position) (x8 .1))
 
 pub counters-self : (a : Counters) → sameCounters a a ≡ true
 unfolding sameCounters
-counters-self a = rw (eqb-self (a .minislots), eqb-self (a .groups), eqb-self (a .next), eqb-self (a .urgent), eqb-self (a .long), numbers-self (a .resolution), marks-self (a .opened))
+counters-self a =
+    rw (
+      eqb-self (a .minislots),
+      eqb-self (a .groups),
+      eqb-self (a .next),
+      eqb-self (a .urgent),
+      eqb-self (a .long),
+      numbers-self (a .resolution),
+      marks-self (a .opened),
+      numbers-self (a .calendar),
+      eqb-self (a .position),
+    )

@@ -2,6 +2,7 @@
 use mathlib.Core.Path.{_≡_, refl, sym, ap, subst, _∙_}
 use mathlib.Core.Bool.{Bool, true, not}
 use mathlib.Core.List.{List, [], _∷_}
+use mathlib.Core.Option.{some}
 use mathlib.Core.Logic.{_≢_, by-cases}
 use Prim.Native.Nat.{ℕ, zero, suc, _+_, _-_, _≤_, _<_}
 use native.Mathlib.Omega.{arith}
@@ -17,23 +18,25 @@ use Rattle.rules.specs.declared.Station.{Station}
 use Rattle.rules.specs.declared.WireRow.{WireRow}
 use Rattle.listlaws.specs.Lists.{each, eachPair, sumOf, gatherOf}
 use Rattle.listlaws.specs.Every.{everyFrom}
+use Rattle.rules.specs.Calendars.{freeEntry, ownerIn}
 use Rattle.rules.specs.StationLimits.{resolutionAt, stationWithin}
 use Rattle.rules.specs.StationCalls.{noStation}
 use Rattle.stretches.specs.declared.Stretch.{Stretch}
 use Rattle.places.specs.Places.{differ}
 use Rattle.stretches.specs.Stretches.{apart}
 use Rattle.crowds.specs.Crowds.{differentPlaces, namedTwice}
-use Rattle.channel_rules.specs.Soundness.{messagesOf, tableCounters, otherIndex, indexesDistinct, recordsWithin, sameCounters, countersShared, urgentPlaces, urgentSound, longStretches, longSound, resolvingPlaces, resolutionSoundAt, resolutionSound, askedMinislot, sameMinislot, rowSound, wireSound, soundTable}
+use Rattle.channel_rules.specs.Soundness.{messagesOf, tableCounters, otherIndex, indexesDistinct, recordsWithin, sameCounters, countersShared, urgentPlaces, urgentSound, longStretches, longSound, resolvingPlaces, resolutionSoundAt, resolutionSound, askedMinislot, sameMinislot, rowSound, wireSound, entryOn, entriesOn, ownersSound, soundTable}
 use Rattle.channel_rules.specs.ChannelCalls.{blankRow}
-use Rattle.channel_rules.specs.SoundMeaning.{atUrgent, coversLong, atResolving, stationAt, howMany, Sound}
+use Rattle.channel_rules.specs.SoundMeaning.{atUrgent, coversLong, atResolving, stationAt, howMany, HasStation, Sound}
 use Rattle.rules.proofs.Views.{eqb-self}
 use Rattle.listlaws.proofs.Table.{from-holds, from-at}
-use Rattle.rules.proofs.LimitLaws.{within-limits, arrays-lengths, station-in}
+use Rattle.rules.proofs.LimitLaws.{within-limits, arrays-lengths, station-in, calendar-in}
 use Rattle.rules.proofs.SlotStep.{and-both}
 use Rattle.channel_rules.proofs.SoundTests.{SoundTests, sound-tests, tests-sound}
 use Rattle.places.proofs.Counting.{pairs-once, once-pairs, exactly-one, one-each}
 use Rattle.stretches.proofs.Counting.{spread, length-spread, apart-once, once-apart}
 use Rattle.crowds.proofs.Counting.{two-or-more, twice-each}
+use Rattle.channel_rules.proofs.OwnersMean.{owner-on, on-owner}
 use Rattle.channel_rules.proofs.SoundLists.{AllWithin, urgents-inside, urgents-times, longs-inside, longs-left, longs-times, resolvings-inside, resolvings-times, counters-eq, counters-self}
 
 -- ---- lists of stations, element by element
@@ -76,6 +79,10 @@ all-within c (s ∷ l) w e =
 pub first-length : (l : List Station) → ((k : ℕ) → k < length l → stationWithin (stationAt l k) ≡ true) → length (tableCounters l .resolution) ≡ 8
 first-length [] w = refl
 first-length (s ∷ l) w = arrays-lengths (s .counters) (within-limits (s .counters) (station-in s (w zero (omega arith)) .counters) .arrays) .0
+
+pub first-calendar : (l : List Station) → ((k : ℕ) → k < length l → stationWithin (stationAt l k) ≡ true) → length (tableCounters l .calendar) ≡ 24
+first-calendar [] w = refl
+first-calendar (s ∷ l) w = calendar-in (s .counters) (within-limits (s .counters) (station-in s (w zero (omega arith)) .counters) .calendar) .size
 
 same-slot : (a b : Minislot) → sameMinislot a b ≡ true → a ≡ b
 same-slot a b e =
@@ -160,6 +167,13 @@ module _ (stations : List Station) (rows : List WireRow) (e : soundTable station
       (from-at (λ (i : ℕ) (slot : Minislot). sameMinislot slot (askedMinislot stations g (suc i))) silent (getD rows (g - 1) blankRow .minislots) 0
       (and-both (eqb (length (getD rows (g - 1) blankRow .minislots)) 8) _ (row-sound g gl gh) .1) (j - 1) (omega (arith, row-eight g gl gh))))
 
+  says-owners : (i x : ℕ) → i < 24 → ownerIn (getD (tableCounters stations .calendar) i freeEntry) ≡ some x → HasStation stations x
+  unfolding ownersSound entriesOn
+  says-owners i x h o =
+      let (size, all) = and-both (eqb (length (tableCounters stations .calendar)) 24) (each (entryOn stations) (tableCounters stations .calendar)) (t .owners) in
+      let l = eqb-true (length (tableCounters stations .calendar)) 24 size in
+      owner-on stations (getD (tableCounters stations .calendar) i freeEntry) x (all-at (entryOn stations) freeEntry (tableCounters stations .calendar) all i (omega arith)) o
+
   pub sound-says : Sound stations rows
   sound-says =
       record {
@@ -171,6 +185,7 @@ module _ (stations : List Station) (rows : List WireRow) (e : soundTable station
         resolution = says-resolution;
         wire = says-wire;
         size = (wire-eight, row-eight);
+        owners = says-owners;
       }
 
 -- ---- AND THE OTHER WAY ROUND
@@ -180,7 +195,7 @@ module _ (stations : List Station) (rows : List WireRow) (s : Sound stations row
   in-limits = all-within (tableCounters stations) stations s.within s.shared
 
   tests : SoundTests stations rows
-  unfolding indexesDistinct recordsWithin countersShared urgentSound longSound resolutionSound wireSound
+  unfolding indexesDistinct recordsWithin countersShared urgentSound longSound resolutionSound wireSound ownersSound entriesOn
   tests =
       record {
         distinct = at-pair otherIndex noStation stations (λ i k a b. eq-not _ _ (λ q. let w = s .distinct i k (omega arith) b q in omega arith));
@@ -201,6 +216,9 @@ module _ (stations : List Station) (rows : List WireRow) (s : Sound stations row
         wire =
             rw (eq-eqb (length rows) 8 (s .size .0))
             (from-holds (λ (i : ℕ) (row : WireRow). rowSound stations (suc i) row) blankRow rows 0 (λ k h. row-at (0 + k) k (zero-add k) (omega (arith, s .size .0))));
+        owners =
+            rw (eq-eqb (length (tableCounters stations .calendar)) 24 (first-calendar stations s.within))
+            (at-all (entryOn stations) freeEntry (tableCounters stations .calendar) (λ k h. on-owner stations (getD (tableCounters stations .calendar) k freeEntry) (λ x. s .owners k x (omega (arith, first-calendar stations s.within)))));
       }
     where
       resolution-at : (z k : ℕ) → z ≡ k → k < 8 → resolutionSoundAt stations (suc z) (getD (tableCounters stations .resolution) k 0) ≡ true

@@ -88,6 +88,8 @@ new-are S j (x ∷ l) h = (
     arrays = (refl, refl);
     resolution = λ g lo hi. getD-replicate 8 (g - 1) 0 0 (omega arith);
     mark = λ g lo hi. getD-replicate 8 (g - 1) true false (omega arith);
+    calendar = refl;
+    position = refl;
     condition = refl;
   },
   new-are S (suc j) l (λ i w. h (suc i) (omega arith) ∙ ap (index S) (omega arith)),

@@ -12,22 +12,22 @@ use Rattle.rules.specs.declared.Condition.the-variants.{Long}
 use Rattle.rules.specs.Serving.{waiting}
 use Rattle.channel_rules.specs.SoundMeaning.{stationAt}
 use Rattle.channel_rules.specs.ChannelCalls.{Channel, newChannel, channelCall, channelAfter, channelAnswers}
-use Rattle.rules.specs.Calls.{Start, index, Call, Offer, Slot}
+use Rattle.rules.specs.Calls.{Start, index, Call, Offer, Slot, Calendar}
 use Rattle.rules.specs.Messages.{Segment}
-use Rattle.rules.specs.Plain.{Plain, plainStart, plainCall, plainAfter, plainAnswers}
+use Rattle.rules.specs.Plain.{Plain, plainOwner, plainStart, plainCall, plainAfter, plainAnswers}
 use Rattle.channel_rules.specs.Demand3.{noMessage, segmentAt, messageAt, SendersAre, SenderRule, MessageShows, Demand3After, Demand3Holds}
 use Rattle.rules.proofs.Views.{senderAt, dataFrom, seen}
 use Rattle.rules.proofs.Shared.{Table, tableStart, tableCall, tableAfter, tableAnswers, gather, askedSender}
 use Rattle.rules.proofs.Relation.{Same, Fits}
 use Rattle.listlaws.proofs.Totals.{total}
-use Rattle.rules.proofs.SlotStep.{settled-eq}
+use Rattle.rules.proofs.SlotStep.{owner-eq, settled-eq}
 use Rattle.rules.proofs.CallStep.{begin-same, call-same}
 use Rattle.channel_rules.proofs.ListStep.{run-same, run-answers, Shown, shown, ledger-all}
 use Rattle.channel_rules.proofs.Histories.{history-of}
 use Rattle.rules.proofs.WireRows.{leaves, row-at}
 use Rattle.rules.proofs.Walking.{IsStation}
 use Rattle.channel_rules.proofs.Embody.{Embodies, Embodied, GoodStart, same-length}
-use Rattle.channel_rules.proofs.EmbodyCalls.{own-heard, counted, call-embodied}
+use Rattle.channel_rules.proofs.EmbodyCalls.{own-heard, counted, owner-counted, call-embodied}
 use Rattle.channel_rules.proofs.SoundKept.{counters-same, is-at, meaning, stays-sound}
 use Rattle.channel_rules.proofs.Starts.{started, new-embodies}
 use Rattle.channel_rules.proofs.Following.{member, serial-at, station-of, waiting-sum, entry-at, wire-shows, sender-rule, never-comes, books-taken, books-delivered}
@@ -58,10 +58,14 @@ module _ (S : Start) (G : GoodStart S) where
       run-senders l (plainCall S p (Offer x bytes) .state) (tableCall S t (Offer x bytes) .state) (channelCall ch (Offer x bytes) .state) (call-same S ml p t R (Offer x bytes) .state) (step p t ch R E (Offer x bytes) .state)
   run-senders (Slot picks ∷ l) p t ch R E = (
     λ turn n i s d e.
-        subst (λ c. SendersAre c n) (sym (counted S G p t R ch E (stays-sound S G p t R ch E) ∙ settled-eq S p t R))
-        (sender-rule S p picks turn n i s d (call-same S ml p t R (Slot picks) .answer ∙ sym (step p t ch R E (Slot picks) .answer) ∙ e)),
+        rw (owner-counted S G p t R ch E (stays-sound S G p t R ch E), owner-eq S p t R)
+        (subst (λ c. SendersAre (plainOwner p) c n i s) (sym (counted S G p t R ch E (stays-sound S G p t R ch E) ∙ settled-eq S p t R))
+        (sender-rule S p picks turn n i s d (call-same S ml p t R (Slot picks) .answer ∙ sym (step p t ch R E (Slot picks) .answer) ∙ e))),
     run-senders l (plainCall S p (Slot picks) .state) (tableCall S t (Slot picks) .state) (channelCall ch (Slot picks) .state) (call-same S ml p t R (Slot picks) .state) (step p t ch R E (Slot picks) .state),
   )
+  run-senders (Calendar entries ∷ l) p t ch R E =
+      run-senders l (plainCall S p (Calendar entries) .state) (tableCall S t (Calendar entries) .state) (channelCall ch (Calendar entries) .state) (call-same S ml p t R (Calendar entries) .state)
+      (step p t ch R E (Calendar entries) .state)
 
   -- the statement, of the channel that the start made
   module _ (calls : List Call) where
@@ -133,6 +137,8 @@ module _ (S : Start) (G : GoodStart S) where
                 long = is k h .long ∙ w .n;
                 resolution = λ g lo hi. is k h .resolution g lo hi ∙ w .rq g;
                 opened = λ g lo hi. is k h .mark g lo hi ∙ w .opened g;
+                calendar = is k h .calendar ∙ R .calendar;
+                position = is k h .position ∙ R .position;
               };
           equal = λ i k hi hk. counters-same S G plain table R i k (stationAt (after .stations) i) (stationAt (after .stations) k) (is i hi) (is k hk);
           condition = λ k h. is k h .condition ∙ w .condition k;
@@ -143,9 +149,9 @@ module _ (S : Start) (G : GoodStart S) where
               ∙ ap (λ (z : ℕ). leaves (index S) (gather (λ k. askedSender g z k (table .condition k)) (length (S .indexes)))) (let v : 1 + (j - 1) ≡ suc (j - 1) = omega arith in v)
               ∙ wire-shows S plain table R g (j - 1);
           answers = told;
-          never14 = rw told (never-comes 14 refl refl refl refl refl refl S (plainStart S) calls);
-          never18 = rw told (never-comes 18 refl refl refl refl refl refl S (plainStart S) calls);
-          never12 = rw told (never-comes 12 refl refl refl refl refl refl S (plainStart S) calls);
+          never14 = rw told (never-comes 14 refl refl refl refl refl refl refl refl S (plainStart S) calls);
+          never18 = rw told (never-comes 18 refl refl refl refl refl refl refl refl S (plainStart S) calls);
+          never12 = rw told (never-comes 12 refl refl refl refl refl refl refl refl S (plainStart S) calls);
           hears = λ k h. own-heard S G plain table R after E (stays-sound S G plain table R after E) k (stationAt (after .stations) k) h (is k h);
           sound = meaning S G plain table R after E;
           senders = run-senders calls (plainStart S) tableStart begun first (new-embodies S);

@@ -5,10 +5,11 @@ use mathlib.Core.List.{List, [], _∷_}
 use Prim.Native.Nat.{ℕ, _+_}
 use lib.ListN.{length}
 use Rattle.message.specs.Message.{slotsFor}
-use Rattle.rules.specs.Calls.{Call, Offer, Slot}
+use Rattle.rules.specs.Calls.{Call, Offer, Slot, Calendar}
 use Rattle.rules.specs.Numbers.{Told}
 use Rattle.rules.specs.Answered.{told, slotTurn}
-use Rattle.channel_rules.specs.ChannelCalls.{Channel, channelStartNumberOf, channelOfferNumberOf, channelSlotNumberOf}
+use Rattle.channel_rules.specs.ChannelCalls.{Channel, channelStartNumberOf, channelOfferNumberOf}
+use Rattle.channel_rules.specs.ChannelCalls.{channelSlotNumberOf, channelCalendarNumberOf}
 use Rattle.channel_rules.specs.ChannelCalls.{slotsHeard, outcomeHeard, sentOf, deliveredNow}
 
 unfoldable pub channelStartToldOf : Channel → ℕ → ℕ → List ℕ → Told
@@ -26,7 +27,12 @@ channelSlotToldOf ch picks =
     told (channelSlotNumberOf ch picks) (slotTurn o)
     (sent .senders ∷ sent .index ∷ sent .segment ∷ (o .delivered + deliveredNow (o .turn) (sent .senders)) ∷ [])
 
+-- setting a calendar answers no value
+unfoldable pub channelCalendarToldOf : Channel → List ℕ → Told
+channelCalendarToldOf ch entries = told (channelCalendarNumberOf ch entries) [] []
+
 -- any call of demand 3's list
 abbrev pub channelToldOf : Channel → Call → Told
 channelToldOf ch (Offer index bytes) = channelOfferToldOf ch index bytes
 channelToldOf ch (Slot picks) = channelSlotToldOf ch picks
+channelToldOf ch (Calendar entries) = channelCalendarToldOf ch entries

@@ -1,6 +1,6 @@
--- The channel: a table of stations and a wire; its start, its offers and its slots (paper 01, "The channel" and "Operations and their
--- numbers"). A refusal leaves table and wire as they were. Assumes nothing.
-use mathlib.Core.Bool.{Bool, _&&_, cond}
+-- The channel: a table of stations and a wire; its start, its offers, its calendar and its slots (paper 01, "The channel" and "Operations
+-- and their numbers"; paper 02, T-02). A refusal leaves table and wire as they were. Assumes nothing.
+use mathlib.Core.Bool.{Bool, _&&_}
 use mathlib.Core.List.{List, [], _∷_, map}
 use Prim.Native.Nat.{ℕ, zero, suc, _+_, _-_}
 use lib.Dec.{ltb, eqb}
@@ -20,21 +20,24 @@ use Rattle.rules.specs.declared.StartAnswer.{StartAnswer}
 use Rattle.rules.specs.declared.StartAnswer.the-variants.{Ready, Refused as RefusedStart}
 use Rattle.rules.specs.declared.WireRow.{WireRow}
 use Rattle.listlaws.specs.Lists.{each, eachPair, onlyIf, gatherOf}
+use Rattle.rules.specs.Calendars.{someFree}
 use Rattle.rules.specs.Limits.{between}
 use Rattle.rules.specs.Starting.{inRanges}
 use Rattle.rules.specs.Hearing.{wordsOf, countsOf}
 use Rattle.rules.specs.Refusing.{unless, byNumber}
 use Rattle.rules.specs.Queueing.{stepOneOf}
 use Rattle.rules.specs.declared.Turn.{Turn}
-use Rattle.rules.specs.declared.Turn.the-variants.{Urgent as UrgentTurn, Long as LongTurn, Resolve as ResolveTurn, Open as OpenTurn}
+use Rattle.rules.specs.declared.Turn.the-variants.{Owned as OwnedTurn, Urgent as UrgentTurn, Long as LongTurn}
+use Rattle.rules.specs.declared.Turn.the-variants.{Resolve as ResolveTurn, Open as OpenTurn}
 use Rattle.rules.specs.Requesting.{totalOf}
 use Rattle.rules.specs.Outcome.{outcomeOf}
 use Rattle.rules.specs.StationCalls.{startStation, noStation, isIndex, withMessage, takingNumberOf, slotOf}
+use Rattle.rules.specs.Settings.{calendarOn}
 use Rattle.places.specs.Places.{differ}
-use Rattle.channel_rules.specs.Soundness.{soundTable, tableCounters}
+use Rattle.channel_rules.specs.Soundness.{soundTable, tableCounters, positionOf, isOnTable, entriesOn}
 use Rattle.rules.specs.declared.Answer.{Answer}
-use Rattle.rules.specs.declared.Answer.the-variants.{Refused, Taken, Went}
-use Rattle.rules.specs.Calls.{Call, Offer, Slot}
+use Rattle.rules.specs.declared.Answer.the-variants.{Refused, Taken, Set, Went}
+use Rattle.rules.specs.Calls.{Call, Offer, Slot, Calendar}
 
 pub record Channel : Type 0 where
   pub stations : List Station
@@ -88,15 +91,7 @@ channelStartOf ch m n indexes =
 abbrev pub refused : Channel → ℕ → ChannelResult
 refused ch n = record { state = ch; answer = Refused n }
 
--- how many stations stand before the first of an index; all if there is none
-abbrev pub positionOf : ℕ → List Station → ℕ
-positionOf index [] = 0
-positionOf index (s ∷ l) = cond (eqb (s .index) index) 0 (suc (positionOf index l))
-
--- the station of an index, and whether there is one
-abbrev pub hasIndex : Channel → ℕ → Bool
-hasIndex ch index = ltb (positionOf index (ch .stations)) (length (ch .stations))
-
+-- the station of an index
 abbrev pub stationOf : Channel → ℕ → Station
 stationOf ch index = getD (ch .stations) (positionOf index (ch .stations)) noStation
 
@@ -112,12 +107,29 @@ unfoldable pub channelOfferNumberOf : Channel → ℕ → ℕ → ℕ
 channelOfferNumberOf ch index bytes =
     unless (hasStations (ch .stations)) 14
     (unless (soundTable (ch .stations) (ch .wire)) 18
-    (unless (hasIndex ch index) 16
+    (unless (isOnTable (ch .stations) index) 16
     (takingNumberOf (stationOf ch index .condition) bytes)))
 
 unfoldable pub channelOfferOf : Channel → ℕ → ℕ → ChannelResult
 channelOfferOf ch index bytes =
     byNumber (channelOfferNumberOf ch index bytes) (refused ch) (takenAt ch (positionOf index (ch .stations)) bytes)
+
+-- ---- setting a calendar: 14, 18, 20, 21
+
+-- every record alike
+abbrev pub calendarSet : Channel → List ℕ → ChannelResult
+calendarSet ch entries = record { state = record { stations = map (calendarOn entries) (ch .stations); wire = ch .wire }; answer = Set }
+
+unfoldable pub channelCalendarNumberOf : Channel → List ℕ → ℕ
+channelCalendarNumberOf ch entries =
+    unless (hasStations (ch .stations)) 14
+    (unless (soundTable (ch .stations) (ch .wire)) 18
+    (unless (entriesOn (ch .stations) entries) 20
+    (unless (someFree entries) 21
+    0)))
+
+unfoldable pub channelCalendarOf : Channel → List ℕ → ChannelResult
+channelCalendarOf ch entries = byNumber (channelCalendarNumberOf ch entries) (refused ch) (calendarSet ch entries)
 
 -- ---- a slot: 14, 18, 17, 11, 7
 
@@ -149,13 +161,22 @@ abbrev pub newRow : List StationSlot → ℕ → ℕ → List Minislot
 newRow results zero j = []
 newRow results (suc n) j = together (map carries (requestsIn j results)) ∷ newRow results n (suc j)
 
--- a data sender: its index and the segment
+-- a station sends data: in an owned slot the owner alone, its stream; else whoever sends a segment of its message
+abbrev pub speaks : Turn → ℕ → ℕ → Bool
+speaks (OwnedTurn x) index segment = eqb index x
+speaks UrgentTurn index segment = ltb 0 segment
+speaks LongTurn index segment = ltb 0 segment
+speaks ResolveTurn index segment = ltb 0 segment
+speaks OpenTurn index segment = ltb 0 segment
+
+-- a data sender: its index and the segment, 0 for a stream
 pub record DataSent : Type 0 where
   pub index : ℕ
   pub segment : ℕ
 
 abbrev pub dataIn : StationSlot → SlotAnswer → List DataSent
-dataIn r (WentSlot turn minislot segment) = onlyIf (ltb 0 segment) (record { index = r .station .index; segment = segment } ∷ [])
+dataIn r (WentSlot turn minislot segment) =
+    onlyIf (speaks turn (r .station .index) segment) (record { index = r .station .index; segment = segment } ∷ [])
 dataIn r (RefusedSlot n) = []
 
 abbrev pub dataSent : List StationSlot → List DataSent
@@ -172,8 +193,9 @@ loneSegment [] = 0
 loneSegment (x ∷ []) = x .segment
 loneSegment (x ∷ y ∷ l) = 0
 
--- delivered when sent: data sent on an urgent or long turn
+-- delivered when sent: data sent on an urgent or long turn. A stream is in no total
 abbrev pub deliveredNow : Turn → ℕ → ℕ
+deliveredNow (OwnedTurn x) senders = 0
 deliveredNow UrgentTurn senders = senders
 deliveredNow LongTurn senders = senders
 deliveredNow ResolveTurn senders = 0
@@ -230,6 +252,7 @@ channelSlotOf ch picks =
 abbrev pub channelCall : Channel → Call → ChannelResult
 channelCall ch (Offer index bytes) = channelOfferOf ch index bytes
 channelCall ch (Slot picks) = channelSlotOf ch picks
+channelCall ch (Calendar entries) = channelCalendarOf ch entries
 
 abbrev pub channelAfter : Channel → List Call → Channel
 channelAfter ch [] = ch

@@ -1,10 +1,11 @@
--- DEMAND 3 (paper 01, "Demand 3's list" and "The channel"): one claim over every list of calls on one channel from a start that goes
--- through, refused calls included, any arguments at all. Each field is a sentence of the paper. `ch` is the channel after the list, `p` the
--- plain channel after it. Assumes nothing.
+-- DEMAND 3 (paper 01, "Demand 3's list" and "The channel"; paper 02, T-02): one claim over every list of calls on one channel from a start
+-- that goes through, refused calls included, any arguments at all. Each field is a sentence of the paper. `ch` is the channel after the
+-- list, `p` the plain channel after it. Assumes nothing.
 use mathlib.Core.Path.{_≡_}
 use mathlib.Core.Bool.{Bool, true, false}
 use mathlib.Core.List.{List, [], _∷_, map}
-use Prim.Native.Nat.{ℕ, _+_, _-_, _≤_, _<_}
+use mathlib.Core.Option.{Option, none, some}
+use Prim.Native.Nat.{ℕ, _+_, _-_, _%_, _≤_, _<_}
 use lib.Dec.{eqb}
 use lib.ListN.{length, getD}
 use Rattle.requests.specs.Together.{Request, carries, silent, together}
@@ -14,6 +15,7 @@ use Rattle.rules.specs.declared.Places.{Places}
 use Rattle.rules.specs.declared.Station.{Station}
 use Rattle.rules.specs.declared.StartAnswer.the-variants.{Ready}
 use Rattle.listlaws.specs.Lists.{sumOf, countOf}
+use Rattle.rules.specs.Calendars.{ownerOf}
 use Rattle.rules.specs.Hearing.{wordsOf, countsOf}
 use Rattle.rules.specs.Queueing.{placesAfter}
 use Rattle.rules.specs.declared.Turn.{Turn}
@@ -25,8 +27,8 @@ use Rattle.channel_rules.specs.SoundMeaning.{stationAt, Sound}
 use Rattle.channel_rules.specs.ChannelCalls.{Channel, blankRow, channelStartOf, heardRow}
 use Rattle.channel_rules.specs.ChannelCalls.{feedbackHeard, channelCall, channelAfter, channelAnswers}
 use Rattle.rules.specs.declared.Answer.{Answer}
-use Rattle.rules.specs.declared.Answer.the-variants.{Refused, Taken, Went}
-use Rattle.rules.specs.Calls.{Start, index, Call, Offer, Slot}
+use Rattle.rules.specs.declared.Answer.the-variants.{Refused, Taken, Set, Went}
+use Rattle.rules.specs.Calls.{Start, index, Call, Offer, Slot, Calendar}
 use Rattle.rules.specs.Messages.{Message, Segment, segmentsFrom, deliveredFor}
 use Rattle.rules.specs.Plain.{Plain, plainStart, plainAfter, plainAnswers, slotSum, waits}
 use Rattle.rules.specs.Positions.{conditionOf}
@@ -55,28 +57,33 @@ messageAt p i = getD (p .taken) i noMessage
 abbrev pub isRefusal : ℕ → Answer → Bool
 isRefusal n (Refused x) = eqb x n
 isRefusal n (Taken t) = false
+isRefusal n Set = false
 isRefusal n (Went turn senders index segment delivered) = false
 
 -- the slots that an answer says were taken, and delivered
 abbrev pub takenIn : Answer → ℕ
 takenIn (Refused x) = 0
 takenIn (Taken t) = t
+takenIn Set = 0
 takenIn (Went turn senders index segment delivered) = 0
 
 abbrev pub deliveredIn : Answer → ℕ
 deliveredIn (Refused x) = 0
 deliveredIn (Taken t) = 0
+deliveredIn Set = 0
 deliveredIn (Went turn senders index segment delivered) = delivered
 
 -- the lengths of the queues once the row that the next slot hears is counted
 abbrev pub countedPlaces : Channel → Places
 countedPlaces ch = placesAfter (tableCounters (ch .stations)) (feedbackHeard ch)
 
--- outside open access exactly one sender if either transmission queue holds a place, and none otherwise
-pub record SendersAre (c : Places) (senders : ℕ) : Type 0 where
-  pub urgent : 0 < c .urgent → senders ≡ 1
-  pub long : 0 < c .long → senders ≡ 1
-  pub resolve : c .urgent ≡ 0 → c .long ≡ 0 → 0 < c .resolution → senders ≡ 0
+-- an owned slot has exactly one sender, its owner, with its stream; of all other slots, outside open access exactly one sender if either
+-- transmission queue holds a place, and none otherwise
+pub record SendersAre (owner : Option ℕ) (c : Places) (senders lone segment : ℕ) : Type 0 where
+  pub owned : (x : ℕ) → owner ≡ some x → (senders ≡ 1) × (lone ≡ x) × (segment ≡ 0)
+  pub urgent : owner ≡ none → 0 < c .urgent → senders ≡ 1
+  pub long : owner ≡ none → 0 < c .long → senders ≡ 1
+  pub resolve : owner ≡ none → c .urgent ≡ 0 → c .long ≡ 0 → 0 < c .resolution → senders ≡ 0
 
 -- of each slot in a list that went through
 abbrev pub SenderRule : Channel → List Call → Type 0
@@ -84,10 +91,11 @@ SenderRule ch [] = Unit {0}
 SenderRule ch (Offer x bytes ∷ l) = SenderRule (channelCall ch (Offer x bytes) .state) l
 SenderRule ch (Slot picks ∷ l) =
     ((turn : Turn) (senders i s d : ℕ) → channelCall ch (Slot picks) .answer ≡ Went turn senders i s d
-    → SendersAre (countedPlaces ch) senders)
+    → SendersAre (ownerOf (tableCounters (ch .stations))) (countedPlaces ch) senders i s)
     × SenderRule (channelCall ch (Slot picks) .state) l
+SenderRule ch (Calendar entries ∷ l) = SenderRule (channelCall ch (Calendar entries) .state) l
 
--- a station's counters are the lengths of the plain queues, its Open marks and next group the plain ones
+-- a station's counters are the lengths of the plain queues, its Open marks, next group, calendar and position the plain ones
 pub record CountersShow (S : Start) (p : Plain) (s : Station) : Type 0 where
   pub minislots : s .counters .minislots ≡ S .m
   pub groups : s .counters .groups ≡ S .n
@@ -96,6 +104,8 @@ pub record CountersShow (S : Start) (p : Plain) (s : Station) : Type 0 where
   pub long : s .counters .long ≡ length (p .long)
   pub resolution : (g : ℕ) → 1 ≤ g → g ≤ 8 → getD (s .counters .resolution) (g - 1) 0 ≡ length (p .group g .resolution)
   pub opened : (g : ℕ) → 1 ≤ g → g ≤ 8 → getD (s .counters .opened) (g - 1) false ≡ p .group g .opened
+  pub calendar : s .counters .calendar ≡ p .calendar
+  pub position : s .counters .position ≡ p .slots % 24
 
 -- of a message taken: the slots delivered are its first ones, each once and in order, and the rest wait in its station
 pub record MessageShows (p : Plain) (ch : Channel) (m : Message) : Type 0 where
@@ -117,7 +127,7 @@ pub record Demand3 (S : Start) (begun : Channel) (calls : List Call) (ch : Chann
   -- the table has the start's stations: station k has its k-th index
   pub stations : length (ch .stations) ≡ length (S .indexes)
   pub indexes : (k : ℕ) → k < length (S .indexes) → stationAt (ch .stations) k .index ≡ index S k
-  -- each station's counters are the lengths of the plain queues, its Open marks and next group the plain ones
+  -- each station's counters are the lengths of the plain queues, its Open marks, next group, calendar and position the plain ones
   pub counters : (k : ℕ) → k < length (S .indexes) → CountersShow S p (stationAt (ch .stations) k)
   -- so all stations have equal counters
   pub equal : (i k : ℕ) → i < length (S .indexes) → k < length (S .indexes)
@@ -142,8 +152,8 @@ pub record Demand3 (S : Start) (begun : Channel) (calls : List Call) (ch : Chann
   -- every urgent place has one station; the long queue is divided without gap or overlap; every place in a resolution queue has two
   -- stations or more
   pub sound : Sound (ch .stations) (ch .wire)
-  -- of each slot that went through: outside open access exactly one sender if either transmission queue holds a place once its row is
-  -- counted, else none
+  -- of each slot that went through: an owned one has exactly one sender, its owner; of the others, outside open access exactly one sender
+  -- if either transmission queue holds a place once its row is counted, else none
   pub senders : SenderRule begun calls
   -- every message taken is told apart from every other
   pub apart : (i : ℕ) → i < length (p .taken) → messageAt p i .serial ≡ i

@@ -1,8 +1,9 @@
--- What the paper says of a sound table (paper 01, "The channel"), clause by clause, place by place. The test `soundTable` says the same:
--- proofs/SoundMeans. Assumes nothing.
+-- What the paper says of a sound table (paper 01, "The channel"; paper 02, T-02), clause by clause, place by place. The test `soundTable`
+-- says the same: proofs/SoundMeans. Assumes nothing.
 use mathlib.Core.Path.{_≡_}
 use mathlib.Core.Bool.{Bool, true, false, _&&_}
 use mathlib.Core.List.{List}
+use mathlib.Core.Option.{some}
 use Prim.Native.Nat.{ℕ, _+_, _-_, _≤_, _<_}
 use lib.Dec.{eqb, leb, ltb}
 use lib.ListN.{length, getD}
@@ -12,6 +13,7 @@ use Rattle.rules.specs.declared.WireRow.{WireRow}
 use Rattle.listlaws.specs.Lists.{countOf}
 use Rattle.rules.specs.declared.Condition.{Condition}
 use Rattle.rules.specs.declared.Condition.the-variants.{Free, Fresh, Asked, Resolving, Urgent, Long}
+use Rattle.rules.specs.Calendars.{freeEntry, ownerIn}
 use Rattle.rules.specs.StationLimits.{resolutionAt, stationWithin}
 use Rattle.rules.specs.StationCalls.{noStation}
 use Rattle.rules.specs.declared.TableMessage.{TableMessage}
@@ -51,12 +53,18 @@ stationAt stations k = getD stations k noStation
 abbrev pub howMany : (Condition → Bool) → List Station → ℕ
 howMany test stations = countOf (λ (m : TableMessage). test (m .condition)) (messagesOf stations)
 
+-- a station of the table has this index
+pub record HasStation (stations : List Station) (x : ℕ) : Type 0 where
+  pub which : ℕ
+  pub there : which < length stations
+  pub named : stationAt stations which .index ≡ x
+
 pub record Sound (stations : List Station) (rows : List WireRow) : Type 0 where
   -- indexes are distinct
   pub distinct : (i k : ℕ) → i < length stations → k < length stations → stationAt stations i .index ≡ stationAt stations k .index → i ≡ k
   -- every record is within its limits
   pub within : (k : ℕ) → k < length stations → stationWithin (stationAt stations k) ≡ true
-  -- all stations share m, n, next group, counters and Open marks
+  -- all stations share m, n, next group, counters, Open marks, calendar and position
   pub shared : (k : ℕ) → k < length stations → stationAt stations k .counters ≡ tableCounters stations
   -- each H place has exactly one station
   pub urgent : (i : ℕ) → 1 ≤ i → i ≤ tableCounters stations .urgent → howMany (atUrgent i) stations ≡ 1
@@ -68,3 +76,5 @@ pub record Sound (stations : List Station) (rows : List WireRow) : Type 0 where
   pub wire : (g j : ℕ) → 1 ≤ g → g ≤ 8 → 1 ≤ j → j ≤ 8
       → getD (getD rows (g - 1) blankRow .minislots) (j - 1) silent ≡ askedMinislot stations g j
   pub size : (length rows ≡ 8) × ((g : ℕ) → 1 ≤ g → g ≤ 8 → length (getD rows (g - 1) blankRow .minislots) ≡ 8)
+  -- every owner, of all 24 positions, is the index of a station of the table
+  pub owners : (i x : ℕ) → i < 24 → ownerIn (getD (tableCounters stations .calendar) i freeEntry) ≡ some x → HasStation stations x

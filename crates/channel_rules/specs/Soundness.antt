@@ -1,9 +1,9 @@
--- A sound table (paper 01, "The channel"), clause by clause, and their conjunction (refusal 18). The tests on places are those of crate
--- `places`. That each clause says what the paper's says, place by place, is shown in proofs/SoundMeans. Assumes nothing.
-use mathlib.Core.Bool.{Bool, true, false, not, _&&_, Bool·beq}
+-- A sound table (paper 01, "The channel"; paper 02, T-02), clause by clause, and their conjunction (refusal 18). The tests on places are
+-- those of crate `places`. That each clause says what the paper's says, place by place, is shown in proofs/SoundMeans. Assumes nothing.
+use mathlib.Core.Bool.{Bool, true, false, not, _&&_, _||_, Bool·beq, cond}
 use mathlib.Core.List.{List, [], _∷_, map}
 use Prim.Native.Nat.{ℕ, suc}
-use lib.Dec.{eqb}
+use lib.Dec.{eqb, ltb}
 use lib.ListN.{length, getD}
 use Rattle.minislot.specs.declared.Minislot.{Minislot}
 use Rattle.requests.specs.Together.{Request, carries, together}
@@ -19,6 +19,7 @@ use Rattle.crowds.specs.Crowds.{crowded}
 use Rattle.rules.specs.declared.TableMessage.{TableMessage}
 use Rattle.rules.specs.declared.Condition.{Condition}
 use Rattle.rules.specs.declared.Condition.the-variants.{Free, Fresh, Asked, Resolving, Urgent, Long}
+use Rattle.rules.specs.Calendars.{freeEntry, positions}
 use Rattle.rules.specs.StationLimits.{stationWithin}
 use Rattle.rules.specs.StationCalls.{noStation}
 
@@ -46,7 +47,7 @@ indexesDistinct stations = eachPair otherIndex stations
 unfoldable pub recordsWithin : List Station → Bool
 recordsWithin stations = each stationWithin stations
 
--- ---- all stations share m, n, next group, counters and Open marks
+-- ---- all stations share m, n, next group, counters, Open marks, calendar and position
 
 abbrev pub sameNumbers : List ℕ → List ℕ → Bool
 sameNumbers [] [] = true
@@ -65,6 +66,7 @@ sameCounters a b =
     eqb (a .minislots) (b .minislots) && eqb (a .groups) (b .groups) && eqb (a .next) (b .next) && eqb (a .urgent) (b .urgent)
     && eqb (a .long) (b .long)
     && sameNumbers (a .resolution) (b .resolution) && sameMarks (a .opened) (b .opened)
+    && sameNumbers (a .calendar) (b .calendar) && eqb (a .position) (b .position)
 
 unfoldable pub countersShared : List Station → Bool
 countersShared stations = each (λ (s : Station). sameCounters (tableCounters stations) (s .counters)) stations
@@ -148,6 +150,27 @@ rowSound stations g row =
 unfoldable pub wireSound : List Station → List WireRow → Bool
 wireSound stations wire = eqb (length wire) 8 && everyFrom (λ i row. rowSound stations (suc i) row) 0 wire
 
+-- ---- every owner is the index of a station of the table
+
+-- how many stations stand before the first of an index; all if there is none
+abbrev pub positionOf : ℕ → List Station → ℕ
+positionOf index [] = 0
+positionOf index (s ∷ l) = cond (eqb (s .index) index) 0 (suc (positionOf index l))
+
+-- a station of the table has this index
+abbrev pub isOnTable : List Station → ℕ → Bool
+isOnTable stations index = ltb (positionOf index stations) (length stations)
+
+-- an entry of a calendar: free, or the index of a station of the table
+abbrev pub entryOn : List Station → ℕ → Bool
+entryOn stations x = eqb x freeEntry || isOnTable stations x
+
+unfoldable pub entriesOn : List Station → List ℕ → Bool
+entriesOn stations entries = eqb (length entries) positions && each (entryOn stations) entries
+
+unfoldable pub ownersSound : List Station → Bool
+ownersSound stations = entriesOn stations (tableCounters stations .calendar)
+
 -- ---- THE TABLE IS SOUND
 
 unfoldable pub soundTable : List Station → List WireRow → Bool
@@ -155,3 +178,4 @@ soundTable stations wire =
     indexesDistinct stations && recordsWithin stations && countersShared stations && urgentSound stations && longSound stations
     && resolutionSound stations
     && wireSound stations wire
+    && ownersSound stations

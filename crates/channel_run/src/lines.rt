@@ -1,6 +1,7 @@
-// Tables as lines.
+// Tables as lines, and the calendars of their records.
 use local_channel::LocalChannel;
 use rules::WireRow;
+use runs_records::owned_text;
 use runs_records::record_line;
 use runs_records::wire_numbers;
 use runs_tables::least;
@@ -51,4 +52,18 @@ pub(crate) fn table_lines(c: LocalChannel) {
         k += 1;
     }
     wire_lines(wire);
+}
+
+// The position and the calendar of each record.
+pub(crate) fn owned_lines(c: LocalChannel) {
+    let stations = c.stations;
+    let end = least(c.count, 65);
+    let mut k: usize = 0;
+    while k < end {
+        let s = stations[k];
+        let counters = s.counters;
+        owned_text(counters);
+        text(b"\n");
+        k += 1;
+    }
 }

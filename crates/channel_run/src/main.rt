@@ -4,16 +4,18 @@
 // A table is a line `table` with its number of records, a line `record` for each, and a line `row` for each group of which the wire has
 // something: the group, then eight minislots as word and count in turn.
 //
-// The cases come from standard input, a line each, on the table that the line before left. A line `start`, `offer` or `slot` has a call's
-// arguments; it is written, then the answer, then the table as the call left it. The indexes of a start come from the line `indexes` or
-// `from` before it (after the last of them, each is one more than the one before), and the picks of a slot from the line `picks`. Other
-// lines alter the table and write nothing: `blank` (so many records that stand for no station), `count` (another number of records lent),
-// `station` (its place, index and condition, with the counters of the line `counters` before it: m, n, the next group, H, N, eight RQ,
-// eight Open marks), `minislot` (group, minislot, word and count). `table` writes the table; `keep` keeps it, and `again` comes back to the
-// one that was kept.
+// The cases come from standard input, a line each, on the table that the line before left. A line `start`, `offer`, `slot` or `calendar`
+// has a call's arguments (a calendar's 24 entries); it is written, then the answer, then the table as the call left it. An owned turn has
+// the owner behind it. The indexes of a start come from the line `indexes` or `from` before it (after the last of them, each is one more
+// than the one before), and the picks of a slot from the line `picks`. Other lines alter the table and write nothing: `blank` (so many
+// records that stand for no station), `count` (another number of records lent), `station` (its place, index and condition, with the
+// counters of the line `counters` before it: m, n, the next group, H, N, eight RQ, eight Open marks; and the position and the calendar's
+// entries of the line `position` after that), `minislot` (group, minislot, word and count). `table` writes the table, `show` the position
+// and the owners of each of its records; `keep` keeps the table, and `again` comes back to the one that was kept.
 mod lines;
 
 use libc::STDIN_FILENO;
+use lines::owned_lines;
 use lines::table_lines;
 use local_channel::LocalChannel;
 use rehearsing::blank;
@@ -27,12 +29,14 @@ use runs_cases::number;
 use runs_cases::number8;
 use runs_cases::number16;
 use runs_cases::which;
+use runs_records::answer_line;
 use runs_records::condition_of;
+use runs_records::counters_at;
 use runs_records::counters_of;
+use runs_records::entries_of;
 use runs_records::start_line;
-use runs_records::told;
-use runs_records::told_line;
 use runs_tables::begun;
+use runs_tables::calendared;
 use runs_tables::least;
 use runs_tables::offered;
 use runs_tables::slotted;
@@ -87,7 +91,7 @@ fn start(c: LocalChannel, head: Group, given: Group) -> LocalChannel {
 fn offer(c: LocalChannel, head: Group) -> LocalChannel {
     let r = offered(c, number16(head, 1), number(head, 2) as usize);
     let answer = r.answer;
-    told_line(told(answer));
+    answer_line(answer);
     r.channel
 }
 
@@ -97,19 +101,27 @@ fn slot(c: LocalChannel, head: Group, given: Group) -> LocalChannel {
     let end = least(number(head, 1) as usize, 24);
     let r = slotted(c, &picks[0..end]);
     let answer = r.answer;
-    told_line(told(answer));
+    answer_line(answer);
     r.channel
 }
 
-// The table after a call: 12 a start, 13 an offer, 14 a slot.
+fn calendar(c: LocalChannel, head: Group) -> LocalChannel {
+    let r = calendared(c, entries_of(head));
+    let answer = r.answer;
+    answer_line(answer);
+    r.channel
+}
+
+// The table after a call: 14 a start, 15 an offer, 16 a slot, 17 a calendar.
 fn called(s: State, call: u64, head: Group) -> LocalChannel {
     let c = s.last;
     let indexes = s.indexes;
     let picks = s.picks;
     match call {
-        12 => start(c, head, indexes),
-        13 => offer(c, head),
-        _ => slot(c, head, picks),
+        14 => start(c, head, indexes),
+        15 => offer(c, head),
+        16 => slot(c, head, picks),
+        _ => calendar(c, head),
     }
 }
 
@@ -123,32 +135,50 @@ fn station_of(counters: Counters, line: &[u8], head: Group) -> Station {
     }
 }
 
-// What is left after a line of which the first word has this number.
+// What is left after a line that gives something to the lines after it: 1 counters, 2 their position and calendar, 3 or 4 indexes, 5
+// picks.
+fn given(s: State, word: u64, line: &[u8], head: Group) -> State {
+    let mut s = s;
+    let c = s.counters;
+    match word {
+        1 => s.counters = counters_of(head),
+        2 => s.counters = counters_at(c, line, head),
+        5 => s.picks = head,
+        _ => s.indexes = head,
+    }
+    s
+}
+
+// The table after a line that alters it: 6 so many records, 7 another number of them, 8 a station, 9 a minislot.
+fn altered(
+    c: LocalChannel,
+    counters: Counters,
+    word: u64,
+    line: &[u8],
+    head: Group,
+) -> LocalChannel {
+    let place = number(head, 1) as usize;
+    match word {
+        6 => blank(place),
+        7 => with_count(c, place),
+        8 => with_station(c, place, station_of(counters, line, head)),
+        _ => {
+            let j = number(head, 2) as usize;
+            with_minislot(c, place, j, number16(head, 3), number8(head, 4))
+        }
+    }
+}
+
+// What is left after a line from 10 on: the table kept, the one that was kept, the table written, its calendars, or a call.
 fn after(s: State, word: u64, line: &[u8], head: Group) -> State {
     let mut s = s;
     let last = s.last;
-    let place = number(head, 1) as usize;
+    let kept = s.kept;
     match word {
-        1 => s.counters = counters_of(head),
-        2 => s.indexes = head,
-        3 => s.indexes = head,
-        4 => s.picks = head,
-        5 => s.last = blank(place),
-        6 => s.last = with_count(last, place),
-        7 => {
-            let counters = s.counters;
-            s.last = with_station(last, place, station_of(counters, line, head));
-        }
-        8 => {
-            let j = number(head, 2) as usize;
-            s.last = with_minislot(last, place, j, number16(head, 3), number8(head, 4));
-        }
-        9 => s.kept = last,
-        10 => {
-            let kept = s.kept;
-            s.last = kept;
-        }
-        11 => table_lines(last),
+        10 => s.kept = last,
+        11 => s.last = kept,
+        12 => table_lines(last),
+        13 => owned_lines(last),
         _ => {
             text(line);
             text(b"\n");
@@ -162,15 +192,26 @@ fn after(s: State, word: u64, line: &[u8], head: Group) -> State {
 
 // One line.
 fn case(s: State, line: &[u8]) -> State {
+    let mut s = s;
+    let head = group_at(line, 0);
     let word = which(
         line,
         0,
-        b"counters from indexes picks blank count station minislot keep again table start offer slot ",
+        b"counters position from indexes picks blank count station minislot keep again table show start offer slot calendar ",
     );
     if word == 0 {
         return s;
     }
-    after(s, word, line, group_at(line, 0))
+    if word < 6 {
+        return given(s, word, line, head);
+    }
+    if word < 10 {
+        let last = s.last;
+        let counters = s.counters;
+        s.last = altered(last, counters, word, line, head);
+        return s;
+    }
+    after(s, word, line, head)
 }
 
 fn cases(bytes: &[u8], s: State) {

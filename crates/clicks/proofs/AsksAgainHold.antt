@@ -4,6 +4,7 @@ use mathlib.Core.Path.{_≡_, refl, sym, ap, subst, _∙_}
 use mathlib.Core.Bool.{Bool, true, false, cond, _&&_}
 use mathlib.Core.List.{List, [], _∷_}
 use mathlib.Core.Logic.{_≢_, inr, ⊎-elim}
+use mathlib.Core.Option.{Option, none, some as owned}
 use Prim.Native.Nat.{ℕ, suc, _+_, _-_, _<_, _≤_}
 use native.Mathlib.Omega.{arith}
 use lib.Dec.{eqb, ltb}
@@ -13,10 +14,11 @@ use Rattle.rules.specs.declared.Counters.{Counters}
 use Rattle.rules.specs.declared.Places.{Places}
 use Rattle.rules.specs.declared.Station.{Station}
 use Rattle.rules.specs.declared.StationSlot.{StationSlot}
+use Rattle.rules.specs.Calendars.{ownerOf}
 use Rattle.rules.specs.Limits.{between}
 use Rattle.rules.specs.Queueing.{openedOf, placesOf, immediateOf, placesAfter}
 use Rattle.rules.specs.declared.Turn.{Turn}
-use Rattle.rules.specs.declared.Turn.the-variants.{Urgent as UrgentTurn, Long as LongTurn, Resolve as ResolveTurn, Open as OpenTurn}
+use Rattle.rules.specs.declared.Turn.the-variants.{Owned as OwnedTurn, Urgent as UrgentTurn, Long as LongTurn, Resolve as ResolveTurn, Open as OpenTurn}
 use Rattle.rules.specs.Turns.{turnOf, isOpen}
 use Rattle.rules.specs.Falling.{fallen, following}
 use Rattle.rules.specs.declared.Condition.the-variants.{Asked, Resolving, Urgent, Long}
@@ -39,9 +41,10 @@ use Rattle.clicks.proofs.HeardSlots.{Whole, whole-of, goes, settles}
 
 -- ---- a place in the resolution queue: the turn is not open
 
-not-open : (p : Places) → 1 ≤ p .resolution → isOpen (turnOf p) ≡ false
+not-open : (o : Option ℕ) (p : Places) → 1 ≤ p .resolution → isOpen (turnOf o p) ≡ false
 unfolding turnOf
-not-open p h = rw (lt-ltb 0 (p .resolution) h) (go (ltb 0 (p .urgent)) (ltb 0 (p .long)))
+not-open (owned x) p h = refl
+not-open none p h = rw (lt-ltb 0 (p .resolution) h) (go (ltb 0 (p .urgent)) (ltb 0 (p .long)))
   where
     go : (a b : Bool) → isOpen (cond a UrgentTurn (cond b LongTurn ResolveTurn)) ≡ false
     go true b = refl
@@ -50,6 +53,7 @@ not-open p h = rw (lt-ltb 0 (p .resolution) h) (go (ltb 0 (p .urgent)) (ltb 0 (p
 
 silent-unless-open : (turn : Turn) (r g h i t : ℕ) → isOpen turn ≡ false → sends turn r g (Resolving h i t) ≡ 0
 unfolding sends
+silent-unless-open (OwnedTurn x) r g h i t e = refl
 silent-unless-open UrgentTurn r g h i t e = refl
 silent-unless-open LongTurn r g h i t e = refl
 silent-unless-open ResolveTurn r g h i t e = refl
@@ -57,6 +61,7 @@ silent-unless-open OpenTurn r g h i t e = cc
 
 asked-stays : (turn : Turn) (h j t : ℕ) → moved turn (Asked h j t) ≡ Asked h j t
 unfolding moved
+asked-stays (OwnedTurn x) h j t = refl
 asked-stays UrgentTurn h j t = refl
 asked-stays LongTurn h j t = refl
 asked-stays ResolveTurn h j t = refl
@@ -87,15 +92,15 @@ module _ (s : Station) (t : ℕ) (x : HeardSlot) (first : s .condition ≡ Resol
   asks-here : slotTold (slotHearing s x .answer) .values ≡ x .pick ∷ 0 ∷ []
   unfolding settledBy requests
   asks-here =
-      let quiet = silent-unless-open (turnOf (placesAfter (s .counters) (rowHeard x))) (placesAfter (s .counters) (rowHeard x) .resolution) (s .counters .next) (s .counters .next) 1 t
-      (not-open (placesAfter (s .counters) (rowHeard x)) some) in
+      let quiet = silent-unless-open (turnOf (ownerOf (s .counters)) (placesAfter (s .counters) (rowHeard x))) (placesAfter (s .counters) (rowHeard x) .resolution) (s .counters .next) (s .counters .next) 1 t
+      (not-open (ownerOf (s .counters)) (placesAfter (s .counters) (rowHeard x)) some) in
       ap (λ (r : StationSlot). slotTold (r .answer) .values) went ∙ rw (first, waits, quiet)
 
   asked-after : slotHearing s x .station .condition ≡ Asked (s .counters .next) (x .pick) t
   unfolding settledBy requested stationAfter
   asked-after =
       ap (λ (r : StationSlot). r .station .condition) went
-      ∙ rw (first, waits) (asked-stays (turnOf (placesAfter (s .counters) (rowHeard x))) (s .counters .next) (x .pick) t)
+      ∙ rw (first, waits) (asked-stays (turnOf (ownerOf (s .counters)) (placesAfter (s .counters) (rowHeard x))) (s .counters .next) (x .pick) t)
 
 -- the counters after any slot that goes through
 module _ (s : Station) (x : HeardSlot) (z : numberHearing s x ≡ 0) where
@@ -121,7 +126,7 @@ module _ (n g j t : ℕ) (low : 1 ≤ g) (high : g ≤ n) where
   unfolding settledBy requested stationAfter
   asked-kept s x z e ne =
       ap (λ (r : StationSlot). r .station .condition) (goes s (x .words) (x .counts) (x .pick) z)
-      ∙ rw (e, ne-eqb g (s .counters .next) ne) (asked-stays (turnOf (placesAfter (s .counters) (rowHeard x))) g j t)
+      ∙ rw (e, ne-eqb g (s .counters .next) ne) (asked-stays (turnOf (ownerOf (s .counters)) (placesAfter (s .counters) (rowHeard x))) g j t)
 
   groups-kept : (s : Station) (x : HeardSlot) → numberHearing s x ≡ 0 → slotHearing s x .station .counters .groups ≡ s .counters .groups
   unfolding fallen
@@ -194,7 +199,7 @@ asks-again s t x others R =
       asked = asked-after s t x (R .first) z;
       mark =
           ap (λ (c : Counters). markOf c g) (counters-after s x z) ∙ changed s x z .mark
-          ∙ not-open (placesAfter (s .counters) (rowHeard x)) (some s t x (R .first) z);
+          ∙ not-open (ownerOf (s .counters)) (placesAfter (s .counters) (rowHeard x)) (some s t x (R .first) z);
     } in
     let (e, last) =
     others-pass n g (x .pick) t low high others (slotHearing s x .station) W (omega (arith, R .all))

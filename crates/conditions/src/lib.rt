@@ -48,7 +48,7 @@ pub fn within(s: Station) -> bool
 }
 
 // Whether a condition is within its limits, by the counters that its station keeps.
-fn condition_within(c: Counters, k: Condition) -> bool
+pub fn condition_within(c: Counters, k: Condition) -> bool
     ensures { λ r. ⌜ r ≡ conditionWithin c k ⌝ }
 {
     match k {

@@ -9,12 +9,16 @@ use Rattle.decimals.specs.Printing.{recordOf}
 use Rattle.forms.specs.Form.{formOf}
 use Rattle.forms.proofs.FormLines.{isText, field-number, field-text, word-form}
 use Rattle.rules.specs.declared.Counters.{Counters}
-use Rattle.counter_lines.specs.CounterLines.{countersWord, groupWord, countersLine, groupLine}
+use Rattle.counter_lines.specs.CounterLines.{countersWord, ownersWord, groupWord, countersLine, ownersLine, groupLine}
 
 module _ (k : ℕ) (c : Counters) where
   pub counters-form : formOf (35 ∷ 44 ∷ countersWord) (k ∷ c .minislots ∷ c .groups ∷ c .next ∷ c .urgent ∷ c .long ∷ []) ≡ countersLine k c
   unfolding countersLine
   counters-form = word-form countersWord _ k refl
+
+  pub owners-form : formOf (35 ∷ 44 ∷ ownersWord) (k ∷ c .position ∷ c .calendar) ≡ ownersLine k c
+  unfolding ownersLine
+  owners-form = word-form ownersWord _ k refl
 
   -- `#,group,#,#,` and then the mark's word
   group-form : (g rq : ℕ) (mark : List ℕ) → isText mark ≡ true

@@ -1,1 +1,2 @@
 pub mod CounterForms
+mod OwnerValues

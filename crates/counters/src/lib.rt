@@ -1,5 +1,7 @@
 // The counters that every station keeps: their ranges and limits, their start, and what stands in their arrays for a group. Each function
 // is equal to its rule of crate `rules`.
+use calendars::FREE;
+use calendars::calendar_within;
 use rules::Counters;
 ghost use mathlib.Core.Path.{_≡_};
 ghost use Prim.Native.Nat.{_-_};
@@ -41,6 +43,8 @@ pub fn start(m: u8, n: u8) -> Counters
         long: 0,
         resolution: [0u16; 8],
         opened: [true; 8],
+        calendar: [FREE; 24],
+        position: 0,
     }
 }
 
@@ -56,6 +60,8 @@ pub fn none() -> Counters
         long: 0,
         resolution: [0u16; 8],
         opened: [false; 8],
+        calendar: [0u16; 24],
+        position: 0,
     }
 }
 
@@ -64,7 +70,9 @@ pub fn within(c: Counters) -> bool
     ensures { λ r. ⌜ r ≡ withinLimits c ⌝ }
 {
     if in_ranges(c.minislots, c.groups) {
-        return counts_within(c);
+        if counts_within(c) {
+            return calendar_within(c);
+        }
     }
     false
 }

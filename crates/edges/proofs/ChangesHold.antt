@@ -4,6 +4,7 @@
 use mathlib.Core.Path.{_≡_, refl, ap, _∙_}
 use mathlib.Core.Bool.{Bool, true, false, cond}
 use mathlib.Core.List.{List, [], _∷_}
+use mathlib.Core.Option.{Option, none, some}
 use Prim.Native.Nat.{ℕ, _+_, _-_, _<_}
 use native.Mathlib.Omega.{arith}
 use lib.Dec.{eqb, ltb}
@@ -14,6 +15,7 @@ use Rattle.minislot.specs.declared.Feedback.{Feedback}
 use Rattle.minislot.specs.declared.Feedback.the-variants.{Empty, Single, Collide}
 use Rattle.rules.specs.declared.Counters.{Counters}
 use Rattle.rules.specs.declared.Places.{Places}
+use Rattle.rules.specs.Calendars.{ownerOf}
 use Rattle.rules.specs.Limits.{withinLimits}
 use Rattle.rules.specs.Queueing.{queued, queuedSingle, queuedRow, placesOf, immediateOf, placesAfter}
 use Rattle.rules.specs.declared.Turn.the-variants.{Urgent as UrgentTurn, Long as LongTurn, Resolve as ResolveTurn, Open as OpenTurn}
@@ -62,9 +64,10 @@ added b p (Collide ∷ row) =
 -- ---- what a turn takes
 
 -- the turn serves a queue that holds a place
-urgent-taken : (p : Places) → urgentFalls (turnOf p) (p .urgent) + urgentServed (turnOf p) ≡ p .urgent
+urgent-taken : (o : Option ℕ) (p : Places) → urgentFalls (turnOf o p) (p .urgent) + urgentServed (turnOf o p) ≡ p .urgent
 unfolding turnOf
-urgent-taken p = go (ltb 0 (p .urgent)) refl (ltb 0 (p .long)) (ltb 0 (p .resolution))
+urgent-taken (some x) p = omega arith
+urgent-taken none p = go (ltb 0 (p .urgent)) refl (ltb 0 (p .long)) (ltb 0 (p .resolution))
   where
     go : (x : Bool) → ltb 0 (p .urgent) ≡ x → (y z : Bool)
         → urgentFalls (cond x UrgentTurn (cond y LongTurn (cond z ResolveTurn OpenTurn))) (p .urgent)
@@ -74,9 +77,10 @@ urgent-taken p = go (ltb 0 (p .urgent)) refl (ltb 0 (p .long)) (ltb 0 (p .resolu
     go false e false true = omega arith
     go false e false false = omega arith
 
-long-taken : (p : Places) → longFalls (turnOf p) (p .long) + longServed (turnOf p) ≡ p .long
+long-taken : (o : Option ℕ) (p : Places) → longFalls (turnOf o p) (p .long) + longServed (turnOf o p) ≡ p .long
 unfolding turnOf
-long-taken p = go (ltb 0 (p .urgent)) (ltb 0 (p .long)) refl (ltb 0 (p .resolution))
+long-taken (some x) p = omega arith
+long-taken none p = go (ltb 0 (p .urgent)) (ltb 0 (p .long)) refl (ltb 0 (p .resolution))
   where
     go : (x y : Bool) → ltb 0 (p .long) ≡ y → (z : Bool)
         → longFalls (cond x UrgentTurn (cond y LongTurn (cond z ResolveTurn OpenTurn))) (p .long)
@@ -94,12 +98,14 @@ changes c row hr ho =
     let p = placesAfter c row in
     let a = added (immediateOf c row) (placesOf c) row in
     record {
-      urgent = urgent-taken p ∙ a .urgent;
-      long = long-taken p ∙ a .long;
+      urgent = urgent-taken (ownerOf c) p ∙ a .urgent;
+      long = long-taken (ownerOf c) p ∙ a .long;
       resolution = getD-set-same (c .resolution) (c .next - 1) (p .resolution - 1) 0 hr ∙ ap (λ (r : ℕ). r - 1) (a .resolution);
       mark = getD-set-same (c .opened) (c .next - 1) _ false ho;
       others = λ g h. (getD-set-other (c .resolution) (c .next - 1) (g - 1) _ 0 h, getD-set-other (c .opened) (c .next - 1) (g - 1) _ false h);
       next = refl;
+      calendar = refl;
+      position = refl;
     }
 
 -- for every record within its limits

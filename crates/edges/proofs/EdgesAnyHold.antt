@@ -26,6 +26,7 @@ use Rattle.message.proofs.Totals.{fits, fits-none, fits-over, slots-least, take
 use Rattle.rules.specs.declared.Counters.{Counters}
 use Rattle.rules.specs.declared.Places.{Places}
 use Rattle.rules.specs.declared.ListenAnswer.the-variants.{Went}
+use Rattle.rules.specs.Calendars.{ownerOf}
 use Rattle.rules.specs.Queueing.{queued, queuedRow, immediateOf, openedOf, placesOf, placesAfter, stepOneOf}
 use Rattle.rules.specs.declared.Turn.{Turn}
 use Rattle.rules.specs.declared.Turn.the-variants.{Resolve as ResolveTurn}
@@ -104,11 +105,11 @@ module _ (c : Counters) (row : List Feedback) where
       go true e = refl
       go false e = cc
 
-  turn-is : (t : Turn) → listenOf c row .answer ≡ Went t → turnOf (placesAfter c row) ≡ t
+  turn-is : (t : Turn) → listenOf c row .answer ≡ Went t → turnOf (ownerOf c) (placesAfter c row) ≡ t
   unfolding listenOf listened stepOneOf
   turn-is t e = go (eqb (heardNumberOf c row) 0) e
     where
-      go : (b : Bool) → cond b (listened c row) (refusedListening c (heardNumberOf c row)) .answer ≡ Went t → turnOf (placesAfter c row) ≡ t
+      go : (b : Bool) → cond b (listened c row) (refusedListening c (heardNumberOf c row)) .answer ≡ Went t → turnOf (ownerOf c) (placesAfter c row) ≡ t
       go true e = cc
       go false e = cc
 
@@ -134,7 +135,7 @@ module _ (n g : ℕ) (low : 1 ≤ g) (high : g ≤ n) where
   -- another group's slot leaves the mark alone
   mark-stays : (c : Counters) (row : List Feedback) → (g - 1 ≡ c .next - 1 → ⊥) → markOf (fallen c (placesAfter c row)) g ≡ markOf c g
   unfolding fallen
-  mark-stays c row ne = getD-set-other (c .opened) (c .next - 1) (g - 1) (isOpen (turnOf (placesAfter c row))) false ne
+  mark-stays c row ne = getD-set-other (c .opened) (c .next - 1) (g - 1) (isOpen (turnOf (ownerOf c) (placesAfter c row))) false ne
 
   next-fallen : (c : Counters) (row : List Feedback) (k : ℕ) → c .groups ≡ n → c .next ≤ n → NextAfter n g (c .next) (suc k)
       → NextAfter n g (fallen c (placesAfter c row) .next) k
@@ -158,10 +159,10 @@ module _ (n g : ℕ) (low : 1 ≤ g) (high : g ≤ n) where
 -- ---- a resolve slot, then a lone Single of 1
 
 -- a resolve slot's mark is no
-resolve-mark : (c : Counters) (row : List Feedback) → c .next - 1 < length (c .opened) → turnOf (placesAfter c row) ≡ ResolveTurn
+resolve-mark : (c : Counters) (row : List Feedback) → c .next - 1 < length (c .opened) → turnOf (ownerOf c) (placesAfter c row) ≡ ResolveTurn
     → markOf (fallen c (placesAfter c row)) (c .next) ≡ false
 unfolding fallen
-resolve-mark c row h e = getD-set-same (c .opened) (c .next - 1) (isOpen (turnOf (placesAfter c row))) false h ∙ ap isOpen e
+resolve-mark c row h e = getD-set-same (c .opened) (c .next - 1) (isOpen (turnOf (ownerOf c) (placesAfter c row))) false h ∙ ap isOpen e
 
 round : (c : Counters) (row : List Feedback) (others : List (List Feedback)) → ResolveRound c row others
     → (afterRows c (row ∷ others) .next ≡ c .next) × (markOf (afterRows c (row ∷ others)) (c .next) ≡ false)

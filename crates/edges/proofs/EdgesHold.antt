@@ -8,6 +8,7 @@ use Rattle.minislot.specs.Reading.{readingOf}
 use Rattle.rows.specs.Row.{readings, firstNumber, feedbacks, weight}
 use Rattle.minislot.proofs.Readings.{reads-1}
 use Rattle.message.specs.Message.{fitsMessage, ceiling, slotsFor, slotTotalOf}
+use Rattle.rules.specs.Calendars.{entriesWithin, someFree, calendarWithin}
 use Rattle.rules.specs.Limits.{groupsWithin, withinLimits}
 use Rattle.rules.specs.Queueing.{queuedRow, passes, immediateOf, placesAfter, stepOneOf}
 use Rattle.rules.specs.Turns.{turnOf}
@@ -18,7 +19,7 @@ use Rattle.edges.proofs.EdgesAnyHold.{edges-any}
 
 pub edges : Edges
 unfolding ones onesIn those sixOnes patterns placeOf indexOf readingOf readings firstNumber feedbacks weight
-    fitsMessage ceiling slotsFor slotTotalOf groupsWithin withinLimits queuedRow passes immediateOf placesAfter stepOneOf turnOf fallen
+    fitsMessage ceiling slotsFor slotTotalOf groupsWithin entriesWithin someFree calendarWithin withinLimits queuedRow passes immediateOf placesAfter stepOneOf turnOf fallen
     listened heardNumberOf listenOf listenNumberOf listeningOf
 edges =
     record {

@@ -1,6 +1,7 @@
 -- Worked channels, by hand-checked numbers: a list of calls on three stations in two groups, and every answer. The table's answers and the
 -- plain channel's are each computed. Shown: immediate success; two stations that collide, resolve and are served; a long message preempted by an urgent one;
--- a Collide beside a Single; every refusal that a sound channel can give but 7. Assumes nothing.
+-- a Collide beside a Single; every refusal that a sound channel can give but 7. And a list with calendars: owned slots beside a request, an urgent place and
+-- an immediate success. Assumes nothing.
 use mathlib.Core.Path.{_≡_, refl, _∙_}
 use mathlib.Core.List.{List, [], _∷_}
 use Prim.Native.Nat.{ℕ}
@@ -13,9 +14,10 @@ use Rattle.pattern.specs.Ones.{containsOnes}
 use Rattle.minislot.specs.Reading.{readingOf}
 use Rattle.rows.specs.Row.{readings, firstNumber, feedbacks, weight}
 use Rattle.requests.specs.Together.{together}
+use Rattle.rules.specs.Calendars.{entriesWithin, someFree, calendarWithin}
 use Rattle.rules.specs.Limits.{groupsWithin, withinLimits}
 use Rattle.rules.specs.Queueing.{queuedRow, passes, immediateOf, placesAfter, stepOneOf}
-use Rattle.rules.specs.declared.Turn.the-variants.{Urgent as UrgentTurn, Long as LongTurn, Resolve as ResolveTurn, Open as OpenTurn}
+use Rattle.rules.specs.declared.Turn.the-variants.{Owned as OwnedTurn, Urgent as UrgentTurn, Long as LongTurn, Resolve as ResolveTurn, Open as OpenTurn}
 use Rattle.rules.specs.Turns.{turnOf}
 use Rattle.rules.specs.Falling.{fallen}
 use Rattle.rules.specs.StationLimits.{conditionWithin, stationWithin}
@@ -23,11 +25,11 @@ use Rattle.rules.specs.OwnHearing.{hearsItself}
 use Rattle.rules.specs.Requesting.{requests, requested}
 use Rattle.rules.specs.Serving.{sends, moved}
 use Rattle.rules.specs.StationCalls.{noStation, heardSlotNumberOf, slotNumberOf, slotOf}
-use Rattle.channel_rules.specs.Soundness.{indexesDistinct, recordsWithin, sameCounters, countersShared, urgentSound, longSound, resolutionSound, askedMinislot, wireSound, soundTable}
-use Rattle.channel_rules.specs.ChannelCalls.{Channel, blankWire, channelStartNumberOf, channelStartOf, channelOfferNumberOf, channelOfferOf, heardRow, channelSlotNumberOf, channelSlotOf, channelAnswers}
+use Rattle.channel_rules.specs.Soundness.{indexesDistinct, recordsWithin, sameCounters, countersShared, urgentSound, longSound, resolutionSound, askedMinislot, wireSound, entriesOn, ownersSound, soundTable}
+use Rattle.channel_rules.specs.ChannelCalls.{Channel, blankWire, channelStartNumberOf, channelStartOf, channelOfferNumberOf, channelOfferOf, heardRow, channelSlotNumberOf, channelSlotOf, channelCalendarNumberOf, channelCalendarOf, channelAnswers}
 use Rattle.rules.specs.declared.Answer.{Answer}
-use Rattle.rules.specs.declared.Answer.the-variants.{Refused, Taken, Went}
-use Rattle.rules.specs.Calls.{Start, Call, Offer, Slot}
+use Rattle.rules.specs.declared.Answer.the-variants.{Refused, Taken, Set, Went}
+use Rattle.rules.specs.Calls.{Start, Call, Offer, Slot, Calendar}
 use Rattle.rules.specs.Plain.{plainStart, plainAnswers}
 use Rattle.channel_rules.proofs.Theorem.{demand3}
 use Rattle.rules.specs.Landing.{landings}
@@ -83,9 +85,9 @@ plain = refl
 -- on the table and the wire: words, readings, soundness and all
 direct : channelAnswers (channelStartOf table 2 2 indexes .state) calls ≡ answers
 unfolding ones onesIn fitsMessage slotsFor ceiling patterns those sixOnes wordOf indexOf placeOf containsOnes readingOf readings firstNumber feedbacks weight
-    together groupsWithin withinLimits queuedRow passes immediateOf placesAfter stepOneOf turnOf fallen conditionWithin stationWithin landings outcomeBy settledIn actsOf stepOf
+    together groupsWithin entriesWithin someFree calendarWithin withinLimits queuedRow passes immediateOf placesAfter stepOneOf turnOf fallen conditionWithin stationWithin landings outcomeBy settledIn actsOf stepOf
     hearsItself requests requested sends moved heardSlotNumberOf slotNumberOf slotOf indexesDistinct recordsWithin sameCounters countersShared urgentSound longSound
-    resolutionSound askedMinislot wireSound soundTable channelStartNumberOf channelStartOf channelOfferNumberOf channelOfferOf heardRow channelSlotNumberOf channelSlotOf
+    resolutionSound askedMinislot wireSound entriesOn ownersSound soundTable channelStartNumberOf channelStartOf channelOfferNumberOf channelOfferOf heardRow channelSlotNumberOf channelSlotOf
 direct = refl
 
 -- THE WORKED CHANNELS: the table and the wire, the plain channel, and the one by the other through demand 3
@@ -94,3 +96,48 @@ worked = (direct, plain)
 
 pub worked-by-demand3 : channelAnswers (channelStartOf table 2 2 indexes .state) calls ≡ answers
 worked-by-demand3 = demand3 table 2 2 indexes goes calls .answers ∙ plain
+
+-- ---- STREAMS: the same three stations, with calendars
+
+-- index 7 owns positions 0 and 3, index 923 position 2; an entry beside free ones
+abbrev calendar : Call
+calendar = Calendar (7 ∷ 65535 ∷ 923 ∷ 7 ∷ replicate 20 65535)
+
+abbrev only : ℕ → Call
+only x = Calendar (x ∷ replicate 23 65535)
+
+abbrev streams : List Call
+streams =
+    -- in station 1's owned slot of group 1 station 2 asks, and sends no data; then station 1 itself asks in an open slot of group 2
+    calendar ∷ Offer 9 48 ∷ slot 1 1 1 ∷ Offer 7 48 ∷ slot 1 1 1
+    -- station 2 is heard alone, but the mark of group 1 is no: it is urgent, and stays at its place while station 3's stream is sent
+    ∷ slot 1 1 1
+    -- station 1 is heard alone: immediate success, delivered in its own owned slot; then the urgent place is served
+    ∷ slot 1 1 1 ∷ slot 1 1 1
+    -- refusals: an owner above 923, one that is not on the channel, no free position; then a calendar that frees every position
+    ∷ only 924 ∷ only 8 ∷ Calendar (replicate 24 7) ∷ Calendar (replicate 24 65535) ∷ slot 1 1 1
+    ∷ []
+
+abbrev stream-answers : List Answer
+stream-answers =
+    Set ∷ Taken 1 ∷ Went (OwnedTurn 7) 1 7 0 0 ∷ Taken 1 ∷ Went OpenTurn 1 7 1 0
+    ∷ Went (OwnedTurn 923) 1 923 0 0
+    ∷ Went (OwnedTurn 7) 1 7 0 1 ∷ Went UrgentTurn 1 9 1 1
+    ∷ Refused 20 ∷ Refused 20 ∷ Refused 21 ∷ Set ∷ Went OpenTurn 0 0 0 0
+    ∷ []
+
+streams-plain : plainAnswers start (plainStart start) streams ≡ stream-answers
+unfolding fitsMessage slotsFor ceiling
+streams-plain = refl
+
+streams-direct : channelAnswers (channelStartOf table 2 2 indexes .state) streams ≡ stream-answers
+unfolding ones onesIn fitsMessage slotsFor ceiling patterns those sixOnes wordOf indexOf placeOf containsOnes readingOf readings firstNumber feedbacks weight
+    together groupsWithin entriesWithin someFree calendarWithin withinLimits queuedRow passes immediateOf placesAfter stepOneOf turnOf fallen conditionWithin stationWithin landings outcomeBy
+    settledIn actsOf stepOf hearsItself requests requested sends moved heardSlotNumberOf slotNumberOf slotOf indexesDistinct recordsWithin sameCounters countersShared urgentSound longSound
+    resolutionSound askedMinislot wireSound entriesOn ownersSound soundTable channelStartNumberOf channelStartOf channelOfferNumberOf channelOfferOf heardRow channelSlotNumberOf channelSlotOf
+    channelCalendarNumberOf channelCalendarOf
+streams-direct = refl
+
+-- THE WORKED STREAMS: the table and the wire, and the plain channel
+pub worked-streams : (channelAnswers (channelStartOf table 2 2 indexes .state) streams ≡ stream-answers) × (plainAnswers start (plainStart start) streams ≡ stream-answers)
+worked-streams = (streams-direct, streams-plain)

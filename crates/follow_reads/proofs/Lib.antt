@@ -1,2 +1,3 @@
 pub mod LineRoom
 pub mod Recordings
+pub mod FreeSlots

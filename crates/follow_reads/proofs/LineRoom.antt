@@ -17,6 +17,7 @@ use Rattle.refusals.proofs.RefusalLaws.{refusal-within}
 use Rattle.rules.specs.declared.Turn.{Turn}
 use Rattle.rules.specs.declared.Turn.the-variants as turn
 use Rattle.rules.specs.Refusing.{byNumber}
+use Rattle.rules.specs.Calendars.{ownerOf}
 use Rattle.rules.specs.Turns.{turnOf}
 use Rattle.rules.specs.Falling.{urgentFalls, longFalls, fallen}
 use Rattle.rules.specs.Starting.{inRanges, startNumberOf}
@@ -40,12 +41,14 @@ first-low bytes =
 
 -- a counter that falls is not above what it was
 urgent-less : (t : Turn) (h : ℕ) → urgentFalls t h ≤ h
+urgent-less (turn.Owned x) h = omega arith
 urgent-less turn.Urgent h = omega arith
 urgent-less turn.Long h = omega arith
 urgent-less turn.Resolve h = omega arith
 urgent-less turn.Open h = omega arith
 
 long-less : (t : Turn) (n : ℕ) → longFalls t n ≤ n
+long-less (turn.Owned x) n = omega arith
 long-less turn.Urgent n = omega arith
 long-less turn.Long n = omega arith
 long-less turn.Resolve n = omega arith
@@ -91,15 +94,16 @@ module _ (f : Follower) (near : Counted f) where
       let c = f .counters in
       let p = rowPlaces f bytes in
       let after = fallen c p in
+      let t = turnOf (ownerOf c) p in
       let in-limits = row-within f bytes z in
       let w = within-limits c (in-limits .0) in
       let l = arrays-lengths c (w .arrays) in
       let b = none-passes p (in-limits .1) in
       let r = getD-set-same (c .resolution) (c .next - 1) (p .resolution - 1) 0 (omega (arith, l .0, w .next, w .groups)) in (
         next-place (f .place) near,
-        row-alone (f .place - 1) (c .next) (letterOf (turnOf p)) (after .urgent) (after .long) (getD (after .resolution) (c .next - 1) 0)
-            (omega arith) (omega (arith, w .next, w .groups)) (omega (arith, urgent-less (turnOf p) (p .urgent), b .0))
-            (omega (arith, long-less (turnOf p) (p .long), b .1)) (omega (arith, r, b .2)),
+        row-alone (f .place - 1) (c .next) (letterOf t) (after .urgent) (after .long) (getD (after .resolution) (c .next - 1) 0)
+            (omega arith) (omega (arith, w .next, w .groups)) (omega (arith, urgent-less t (p .urgent), b .0))
+            (omega (arith, long-less t (p .long), b .1)) (omega (arith, r, b .2)),
       )
 
   record-fits : (bytes : List ℕ) → Fits (followRecord f bytes)

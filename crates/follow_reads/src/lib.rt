@@ -1,1 +1,2 @@
-// What a run of `follow` writes, however its reads divide the recording: two theorems about `followProgram`, and no code.
+// What a run of `follow` writes, however its reads divide the recording, and that no slot that it follows is owned: three theorems about
+// `followProgram` and its steps, and no code.

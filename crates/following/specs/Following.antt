@@ -16,6 +16,7 @@ use Rattle.rules.specs.Refusing.{byNumber}
 use Rattle.rules.specs.Starting.{startCounters, noCounters}
 use Rattle.rules.specs.Queueing.{stepOneOf}
 use Rattle.rules.specs.Falling.{fallen}
+use Rattle.rules.specs.Calendars.{ownerOf}
 use Rattle.rules.specs.Turns.{turnOf}
 use Rattle.rules.specs.declared.Turn.{Turn}
 use Rattle.following.specs.declared.Follower.{Follower}
@@ -60,7 +61,7 @@ rowPlaces f bytes = stepOneOf (f .counters) (feedbacks (readings (rowWords bytes
 abbrev pub rowWent : Follower → List ℕ → Step
 rowWent f bytes =
     let after = fallen (f .counters) (rowPlaces f bytes) in
-    wentStep f after (lineAfter f (turnOf (rowPlaces f bytes)) after)
+    wentStep f after (lineAfter f (turnOf (ownerOf (f .counters)) (rowPlaces f bytes)) after)
 
 -- the first record went through, or a row
 abbrev pub recordWent : Follower → List ℕ → Step

@@ -26,8 +26,8 @@ use denote.Triple.Clauses.{ensured, lasts}
 use denote.Triple.Spec.{tripleOf}
 use Rattle.rules.specs.declared.Station.{Station}
 use Rattle.rules.specs.declared.WireRow.{WireRow}
-use Rattle.channel_rules.specs.ChannelCalls.{ChannelResult, ChannelStarted, channelStartOf, channelOfferOf, channelSlotOf}
-use Rattle.rules.specs.Calls.{Slot as SlotCall, Offer as OfferCall}
+use Rattle.channel_rules.specs.ChannelCalls.{ChannelResult, ChannelStarted, channelStartOf, channelOfferOf, channelCalendarOf, channelSlotOf}
+use Rattle.rules.specs.Calls.{Slot as SlotCall, Offer as OfferCall, Calendar as CalendarCall}
 use Rattle.calls.specs.declared.CallReply.{CallReply}
 use Rattle.calls.specs.declared.StartReply.{StartReply}
 use Rattle.calls.specs.ByValue.{channelOf}
@@ -37,9 +37,10 @@ use Rattle.table.proofs.DataKinds.{vals, of-uint}
 use Rattle.table.proofs.Returned.{owned-of}
 use Rattle.table.proofs.Lent.{lentSlice, lentVals, MutLoan}
 use Rattle.table.proofs.Values.{station}
-use Rattle.channel.proofs.Values.{wire, called, started}
+use Rattle.channel.proofs.Values.{wire, entries, called, started}
 use Rattle.channel.proofs.slot as slot′
 use Rattle.channel.proofs.offer as offer′
+use Rattle.channel.proofs.calendar as calendar′
 use Rattle.channel.proofs.start as start′
 
 -- a result is its parts
@@ -60,6 +61,9 @@ after-starting ys w m n indexes = channelStartOf (channelOf ys w) m n indexes
 
 abbrev pub offered : List Station → List WireRow → ℕ → ℕ → ChannelResult
 offered ys w index bytes = channelOfferOf (channelOf ys w) index bytes
+
+abbrev pub calendared : List Station → List WireRow → List ℕ → ChannelResult
+calendared ys w entries = channelCalendarOf (channelOf ys w) entries
 
 abbrev pub slotted : List Station → List WireRow → List ℕ → ChannelResult
 slotted ys w picks = channelSlotOf (channelOf ys w) picks
@@ -121,6 +125,33 @@ module _ {M : Type 1} (𝓤 : URA M) (H : Heap 𝓤) (A : Atoms 𝓤) (mem : Mem
           split ! $ move ! (1 ∷ []) $ heard ! (CallMet (channelOf ys w) (OfferCall i n) (leaves (zs .0) r)) (λ e. fsplit ! $ fsplit ! $ move ! (1 ∷ []) $ feqL ! (λ _. rewrite ! 0 (λ (ws : List Station). ‵ (finally (station .R) δ ws)) (ap (λ (c : ChannelResult). c .state .stations) (e .0)) refl $
           -- [the last list; …; the tokens and the result]
           move ! (2 ∷ []) $ split ! $ move ! (1 ∷ []) $ rewrite ! 0 (λ (c : CallReply). ‵ (called .R .own c (v ∷ []))) (called-is (zs .0) r after-offer (e .0)) refl $ peeks ! (called .R) (Is (called .R)) (shows 𝓤 H A (called .R)) (calledBy after-offer) (v ∷ []) (λ is.
+          drop ! $ split ! $ at-once ! $ frame ! $ frame ! $ frame ! $ drop ! $ check ! is $ done !)))));
+    }
+
+  -- ---- calendar, of a `&mut [Station]`, a wire and entries
+  abbrev pub Calendar : Contract 𝓤
+  Calendar = tripleOf 𝓤 H A calendar′.signature (calendar′.spec 𝓤 H A mem run)
+
+  module _ (l : ℕ) (ys : List Station) (w : List WireRow) (e : List ℕ) where
+    abbrev pub to-calendar : ℕ → GName → Calendar .Ghost
+    to-calendar ν δ = (((ν ∷ [], tt), (fullShare, tt), tt, (lentSlice l 0 ys δ, (w, (e, tt))), (lentVals l 0 ys, (vals wire w, (vals entries e, tt)))), tt)
+
+    abbrev after-calendar : ChannelResult
+    after-calendar = calendared ys w e
+
+    pub loan-calendar : Given 𝓤 H A → Is (wire .R) w (vals wire w) → Is (entries .R) e (vals entries e) → MutLoan 𝓤 H A Calendar to-calendar (named 0) (station .R) l 0 ys (‵ ftrue) (‵ ftrue) (after-calendar .state .stations) called (calledBy after-calendar)
+    loan-calendar W gw ge = record {
+      asks = λ ν δ.
+          qed W (‵ (flft (ν ∷ []) fullShare) ∷ ‵ (MutSlice (named 0) (ν ∷ []) (station .R) .own (lentSlice l 0 ys δ) (lentVals l 0 ys)) ∷ ‵ ftrue ∷ []) ∵
+          move ! (2 ∷ []) $ owned-of ! entries e _ ge $ fjoin ! $
+          owned-of ! wire w _ gw $ fjoin ! $ move ! (2 ∷ 0 ∷ []) $ fjoin ! $ nothing ! $ move ! (2 ∷ 0 ∷ []) $ join ! $ join ! $ frame ! $ done !;
+      says = λ ν δ v.
+          qed W (later (some (λ (r : CallReply). ((‵ (flft (ν ∷ []) fullShare) ⊛ ‵ ftrue) ⊛ ‵ (called .R .own r (v ∷ []))) ⊛ raw (ensured 𝓤 H A calendar′.ended (calendar′.clauses 𝓤 H A mem run) (ν ∷ [], tt) (lentSlice l 0 ys δ, (w, (e, tt))) tt r))) ∷ []) ∵
+          updating ! $ await ! tt $ pick ! (λ r. split ! $ move ! (1 ∷ []) $
+          use1 W (some (λ (zs : List Station × (Unit {0} × (Unit {0} × Unit {0}))). ‵ (lasts calendar′.ended (ν ∷ [], tt) (lentSlice l 0 ys δ, (w, (e, tt))) zs) ⊛ raw (fact 𝓤 (CallMet (channelOf ys w) (CalendarCall e) (leaves (zs .0) r))))) (id⊢ 𝓤 _) $ pick ! (λ zs.
+          split ! $ move ! (1 ∷ []) $ heard ! (CallMet (channelOf ys w) (CalendarCall e) (leaves (zs .0) r)) (λ p. fsplit ! $ fsplit ! $ move ! (1 ∷ []) $ feqL ! (λ _. rewrite ! 0 (λ (ws : List Station). ‵ (finally (station .R) δ ws)) (ap (λ (c : ChannelResult). c .state .stations) (p .0)) refl $
+          -- [the last list; …; the tokens and the result]
+          move ! (2 ∷ []) $ split ! $ move ! (1 ∷ []) $ rewrite ! 0 (λ (c : CallReply). ‵ (called .R .own c (v ∷ []))) (called-is (zs .0) r after-calendar (p .0)) refl $ peeks ! (called .R) (Is (called .R)) (shows 𝓤 H A (called .R)) (calledBy after-calendar) (v ∷ []) (λ is.
           drop ! $ split ! $ at-once ! $ frame ! $ frame ! $ frame ! $ drop ! $ check ! is $ done !)))));
     }
 

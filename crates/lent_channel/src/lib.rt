@@ -7,7 +7,7 @@ use rules::Station;
 use rules::WireRow;
 ghost use mathlib.Core.Path.{_≡_};
 ghost use Prim.Native.Nat.{_≤_};
-ghost use Rattle.channel_rules.specs.ChannelCalls.{channelStartOf, channelOfferOf, channelSlotOf};
+ghost use Rattle.channel_rules.specs.ChannelCalls.{channelStartOf, channelOfferOf, channelCalendarOf, channelSlotOf};
 ghost use Rattle.lent_channel.specs.Lent.{lentOf, startLentOf, callLentOf};
 
 // The room after a start on its first records, and the start's result.
@@ -16,7 +16,7 @@ pub struct StartLent {
     pub reply: StartReply,
 }
 
-// The room after an offer or a slot on its first records, and the call's result.
+// The room after an offer, a calendar or a slot on its first records, and the call's result.
 pub struct CallLent {
     pub stations: [Station; 65],
     pub reply: CallReply,
@@ -88,6 +88,37 @@ pub fn offer_lent(
     ensures { λ r. ⌜ r ≡ callLentOf stations count (channelOfferOf (lentOf stations count wire) index bytes) ⌝ }
 {
     offer_part(stations, least(count, 65), wire, index, bytes)
+}
+
+// ---- setting a calendar
+
+fn calendar_part(
+    stations: [Station; 65],
+    count: usize,
+    wire: [WireRow; 8],
+    entries: [u16; 24],
+) -> CallLent
+    requires { ⌜ count ≤ 65 ⌝ }
+    ensures { λ r. ⌜ r ≡ callLentOf stations count (channelCalendarOf (lentOf stations count wire) entries) ⌝ }
+{
+    let mut table = stations;
+    let reply = channel::calendar(&mut table[..count], wire, entries);
+    CallLent {
+        stations: table,
+        reply,
+    }
+}
+
+// A calendar of the first `count` records, or of all 65 where there are no more.
+pub fn calendar_lent(
+    stations: [Station; 65],
+    count: usize,
+    wire: [WireRow; 8],
+    entries: [u16; 24],
+) -> CallLent
+    ensures { λ r. ⌜ r ≡ callLentOf stations count (channelCalendarOf (lentOf stations count wire) entries) ⌝ }
+{
+    calendar_part(stations, least(count, 65), wire, entries)
 }
 
 // ---- a slot

@@ -1,2 +1,3 @@
 pub mod Slices
 mod Tells
+mod Setting

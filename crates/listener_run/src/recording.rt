@@ -26,12 +26,19 @@ fn row(way: u64, c: Counters, words: &[u16], counts: &[u8], at: usize, end: usiz
     heard_by(way, c, &words[at..end], &counts[at..end], 0)
 }
 
-// 40 rows of m minislots, one after the other, from a place of the recording.
-fn rows(way: u64, n: u8, m: u8, words: &[u16], counts: &[u8], first: usize)
+// The record of a start, with a calendar set on it.
+fn started(m: u8, n: u8, entries: [u16; 24]) -> Counters {
+    let r = listener::start(m, n);
+    let c = r.counters;
+    let set = listener::set_calendar(c, entries);
+    set.counters
+}
+
+// 40 rows of m minislots, one after the other, from a place of the recording, on a record that has a start's counters and m minislots.
+fn rows(way: u64, start: Counters, m: u8, shown: bool, words: &[u16], counts: &[u8], first: usize)
     requires { ⌜ (length (now words) ≡ 480) × ((length (now counts) ≡ 480) × ((m ≤ 8) × (first ≤ 160))) ⌝ }
 {
-    let started = listener::start(m, n);
-    let mut c = started.counters;
+    let mut c = start;
     let width = m as usize;
     let mut at = first;
     let mut i: usize = 0;
@@ -39,7 +46,7 @@ fn rows(way: u64, n: u8, m: u8, words: &[u16], counts: &[u8], first: usize)
         let end = at + width;
         let heard = row(way, c, words, counts, at, end);
         word(b"value place lent ", way);
-        heard_text(heard);
+        heard_text(heard, shown);
         text(b"\n");
         c = heard.counters;
         at = end;
@@ -102,13 +109,14 @@ fn made(p: usize) -> Tape
     Tape { words, counts }
 }
 
-// A recording in n groups of m minislots: its rows in each way, from other places of it.
-pub(crate) fn recordings(p: usize, n: u8, m: u8) {
+// A recording in n groups of m minislots, under a calendar: its rows in each way, from other places of it.
+pub(crate) fn recordings(p: usize, n: u8, m: u8, entries: [u16; 24], shown: bool) {
     let tape = made(p);
     let words = tape.words;
     let counts = tape.counts;
     let width = m % 9;
-    rows(1, n, width, &words, &counts, 0);
-    rows(2, n, width, &words, &counts, 7);
-    rows(3, n, width, &words, &counts, 160);
+    let start = started(width, n, entries);
+    rows(1, start, width, shown, &words, &counts, 0);
+    rows(2, start, width, shown, &words, &counts, 7);
+    rows(3, start, width, shown, &words, &counts, 160);
 }

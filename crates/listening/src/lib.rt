@@ -1,4 +1,5 @@
 // Listening by value: the counters that every station keeps, moved by one row that is heard.
+use calendars::coming;
 use counters::within;
 use falling::fall;
 use minislot::RowReading;
@@ -39,7 +40,7 @@ fn listen_row(c: Counters, row: RowReading) -> Listened
         return refused(c, 7);
     }
     Listened {
-        answer: ListenAnswer::Went(turn(reached)),
+        answer: ListenAnswer::Went(turn(coming(c), reached)),
         counters: fall(c, reached),
     }
 }

@@ -2,7 +2,8 @@
 -- of the room as it was. Assumes nothing.
 use mathlib.Core.List.{List}
 use Prim.Native.Nat.{ℕ}
-use Rattle.channel_rules.specs.ChannelCalls.{Channel, ChannelResult, ChannelStarted, channelStartOf, channelOfferOf, channelSlotOf}
+use Rattle.channel_rules.specs.ChannelCalls.{Channel, ChannelResult, ChannelStarted}
+use Rattle.channel_rules.specs.ChannelCalls.{channelStartOf, channelOfferOf, channelCalendarOf, channelSlotOf}
 use Rattle.lent_channel.specs.Lent.{lentOf, roomAfter}
 use Rattle.local_channel.specs.declared.LocalChannel.{LocalChannel}
 use Rattle.local_channel.specs.declared.LocalStarted.{LocalStarted}
@@ -25,6 +26,9 @@ localCalled c r = record { channel = localAfter c (r .state); answer = r .answer
 
 unfoldable pub localOfferOf : LocalChannel → ℕ → ℕ → LocalCalled
 localOfferOf c index bytes = localCalled c (channelOfferOf (lentBy c) index bytes)
+
+unfoldable pub localCalendarOf : LocalChannel → List ℕ → LocalCalled
+localCalendarOf c entries = localCalled c (channelCalendarOf (lentBy c) entries)
 
 unfoldable pub localSlotOf : LocalChannel → List ℕ → LocalCalled
 localSlotOf c picks = localCalled c (channelSlotOf (lentBy c) picks)

@@ -1,4 +1,5 @@
-// A channel that its caller holds by value: room for its records, the wire, and the channel's three calls on it.
+// A channel that its caller holds by value: room for its records, the wire, and the channel's four calls on it.
+use lent_channel::calendar_lent;
 use lent_channel::offer_lent;
 use lent_channel::slot_lent;
 use lent_channel::start_lent;
@@ -8,8 +9,8 @@ use rules::Station;
 use rules::WireRow;
 ghost use mathlib.Core.Path.{_≡_};
 ghost use Rattle.rules.specs.Numbers.{startTold, callTold};
-ghost use Rattle.channel_rules.specs.Answered.{channelStartToldOf, channelOfferToldOf, channelSlotToldOf};
-ghost use Rattle.local_channel.specs.Local.{lentBy, localStartOf, localOfferOf, localSlotOf};
+ghost use Rattle.channel_rules.specs.Answered.{channelStartToldOf, channelOfferToldOf, channelCalendarToldOf, channelSlotToldOf};
+ghost use Rattle.local_channel.specs.Local.{lentBy, localStartOf, localOfferOf, localCalendarOf, localSlotOf};
 
 // Room for 65 records, of which the first `count` are lent to the channel's calls, and the wire. A count above 65 lends all of them.
 pub struct LocalChannel {
@@ -24,7 +25,7 @@ pub struct LocalStarted {
     pub answer: StartAnswer,
 }
 
-// The channel after an offer or a slot, and its answer.
+// The channel after an offer, a calendar or a slot, and its answer.
 pub struct LocalCalled {
     pub channel: LocalChannel,
     pub answer: Answer,
@@ -72,6 +73,32 @@ pub fn offer(c: LocalChannel, index: u16, bytes: usize) -> LocalCalled
     let offer_reply = offered.reply;
     let wire = offer_reply.wire;
     let answer = offer_reply.answer;
+    LocalCalled {
+        channel: LocalChannel {
+            stations,
+            count: c.count,
+            wire,
+        },
+        answer,
+    }
+}
+
+// ---- setting a calendar
+
+// Sets every station's calendar, by `channel::calendar` on the first `count` records.
+pub fn calendar(c: LocalChannel, entries: [u16; 24]) -> LocalCalled
+    ensures { λ r. ⌜
+        (r ≡ localCalendarOf c entries)
+        × (callTold (r .answer) ≡ channelCalendarToldOf (lentBy c) entries)
+        ⌝ }
+{
+    let room = c.stations;
+    let before = c.wire;
+    let set = calendar_lent(room, c.count, before, entries);
+    let stations = set.stations;
+    let set_reply = set.reply;
+    let wire = set_reply.wire;
+    let answer = set_reply.answer;
     LocalCalled {
         channel: LocalChannel {
             stations,

@@ -64,6 +64,7 @@ pub fn moves(t: Turn, k: Condition) -> Condition
     ensures { λ r. ⌜ r ≡ moved t k ⌝ }
 {
     match t {
+        Turn::Owned { .. } => k,
         Turn::Urgent => urgent_moves(k),
         Turn::Long => long_moves(k),
         Turn::Resolve => k,

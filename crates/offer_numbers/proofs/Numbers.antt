@@ -9,9 +9,9 @@ use borrow.Author.Tests.{lt-ltb, le-ltb, ltb-true}
 use Rattle.rules.specs.declared.Station.{Station}
 use Rattle.rules.specs.declared.WireRow.{WireRow}
 use Rattle.rules.specs.Limits.{between}
-use Rattle.channel_rules.specs.Soundness.{soundTable}
+use Rattle.channel_rules.specs.Soundness.{positionOf, isOnTable, soundTable}
 use Rattle.rules.specs.StationCalls.{noStation, takingNumberOf}
-use Rattle.channel_rules.specs.ChannelCalls.{Channel, hasStations, positionOf, hasIndex, channelOfferNumberOf}
+use Rattle.channel_rules.specs.ChannelCalls.{Channel, hasStations, channelOfferNumberOf}
 use Rattle.rules.proofs.Refusals.{test-passed}
 use Rattle.table.specs.Loading.{absent}
 use Rattle.calls.specs.ByValue.{arrayTable, arrayChannel}
@@ -29,7 +29,7 @@ module _ (ch : Channel) (index bytes : ℕ) where
   offer-passed z =
       let p14 = test-passed (hasStations (ch .stations)) 14 _ refl z in
       let p18 = test-passed (soundTable (ch .stations) (ch .wire)) 18 _ refl (p14 .1) in
-      let p16 = test-passed (hasIndex ch index) 16 _ refl (p18 .1) in
+      let p16 = test-passed (isOnTable (ch .stations) index) 16 _ refl (p18 .1) in
       record {
         some = p14 .0;
         known = ltb-true (positionOf index (ch .stations)) (length (ch .stations)) (p16 .0);

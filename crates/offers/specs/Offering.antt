@@ -8,18 +8,15 @@ use Rattle.rules.specs.declared.Station.{Station}
 use Rattle.rules.specs.declared.WireRow.{WireRow}
 use Rattle.rules.specs.Refusing.{byNumber}
 use Rattle.rules.specs.StationCalls.{withMessage}
-use Rattle.channel_rules.specs.ChannelCalls.{ChannelResult, positionOf, channelOfferNumberOf}
-use Rattle.table.specs.Loading.{absent, of, blankOf, withOf, storeOf}
-use Rattle.calls.specs.ByValue.{channelOf, arrayTable, arrayChannel}
-use Rattle.calls.specs.Replies.{refusedReply}
-use Rattle.offers.specs.declared.Offered.{Offered}
-
--- a refusal writes no record
-abbrev pub refusedOffered : List WireRow → ℕ → Offered
-refusedOffered wire n = record { loaded = blankOf 0; reply = refusedReply wire n }
+use Rattle.channel_rules.specs.Soundness.{positionOf}
+use Rattle.channel_rules.specs.ChannelCalls.{channelOfferNumberOf}
+use Rattle.table.specs.Loading.{absent, of, withOf}
+use Rattle.calls.specs.ByValue.{arrayTable, arrayChannel}
+use Rattle.calls.specs.declared.Decided.{Decided}
+use Rattle.calls.specs.Replies.{refusedDecided}
 
 -- station k of n takes a message of this many bytes
-abbrev pub takenOf : List Station → ℕ → List WireRow → ℕ → ℕ → Offered
+abbrev pub takenOf : List Station → ℕ → List WireRow → ℕ → ℕ → Decided
 takenOf stations n wire k bytes =
     record {
       loaded = withOf (of stations n) k (withMessage (getD stations k absent) bytes);
@@ -27,11 +24,7 @@ takenOf stations n wire k bytes =
     }
 
 -- on the first n records
-unfoldable pub offeredOf : List Station → ℕ → List WireRow → ℕ → ℕ → Offered
+unfoldable pub offeredOf : List Station → ℕ → List WireRow → ℕ → ℕ → Decided
 offeredOf stations n wire index bytes =
-    byNumber (channelOfferNumberOf (arrayChannel stations n wire) index bytes) (refusedOffered wire)
+    byNumber (channelOfferNumberOf (arrayChannel stations n wire) index bytes) (refusedDecided wire)
     (takenOf stations n wire (positionOf index (arrayTable stations n)) bytes)
-
--- what is left once its records are written over the table
-abbrev pub offerLeft : List Station → Offered → ChannelResult
-offerLeft ys o = record { state = channelOf (storeOf ys (o .loaded)) (o .reply .wire); answer = o .reply .answer }

@@ -1,6 +1,7 @@
 // An offer on a channel: what it comes to, by its number, on a copy of the table.
 use calls::CallReply;
-use calls::refuse;
+use calls::Decided;
+use calls::decline;
 use offer_numbers::offer_number;
 use positions::position_of;
 use rules::Answer;
@@ -8,7 +9,6 @@ use rules::Condition;
 use rules::Station;
 use rules::WireRow;
 use table::Loaded;
-use table::blanks;
 use table::hold;
 use taking::taking;
 use taking::with_condition;
@@ -17,22 +17,7 @@ ghost use Prim.Native.Nat.{_<_};
 ghost use lib.ListN.{getD};
 ghost use Rattle.rules.specs.StationCalls.{takingNumberOf};
 ghost use Rattle.table.specs.Loading.{absent};
-ghost use Rattle.offers.specs.Offering.{refusedOffered, takenOf, offeredOf};
-
-// What an offer comes to: the records to be written over the table (none where it is refused), and its reply.
-pub struct Offered {
-    pub loaded: Loaded,
-    pub reply: CallReply,
-}
-
-fn refuse_offer(wire: [WireRow; 8], number: u8) -> Offered
-    ensures { λ r. ⌜ r ≡ refusedOffered wire number ⌝ }
-{
-    Offered {
-        loaded: hold(blanks(), 0),
-        reply: refuse(wire, number),
-    }
-}
+ghost use Rattle.offers.specs.Offering.{takenOf, offeredOf};
 
 // Station k of the first n takes a message.
 fn take_message(
@@ -41,7 +26,7 @@ fn take_message(
     wire: [WireRow; 8],
     k: usize,
     bytes: usize,
-) -> Offered
+) -> Decided
     requires { ⌜ (k < 64) × (takingNumberOf (getD stations k absent .condition) bytes ≡ 0) ⌝ }
     ensures { λ r. ⌜ r ≡ takenOf stations n wire k bytes ⌝ }
 {
@@ -51,7 +36,7 @@ fn take_message(
     let total = taken.total;
     let mut after = stations;
     after[k] = with_condition(s, Condition::Fresh { total });
-    Offered {
+    Decided {
         loaded: hold(after, n),
         reply: CallReply {
             answer: Answer::Taken(total),
@@ -67,19 +52,19 @@ pub fn offer(
     wire: [WireRow; 8],
     index: u16,
     bytes: usize,
-) -> Offered
+) -> Decided
     ensures { λ r. ⌜ r ≡ offeredOf stations n wire index bytes ⌝ }
 {
     let number = offer_number(stations, n, wire, index, bytes);
     if number != 0 {
-        return refuse_offer(wire, number);
+        return decline(wire, number);
     }
     let k = position_of(stations, n, index);
     take_message(stations, n, wire, k, bytes)
 }
 
 // The same on a table that was loaded.
-pub fn place_offer(d: Loaded, wire: [WireRow; 8], index: u16, bytes: usize) -> Offered
+pub fn place_offer(d: Loaded, wire: [WireRow; 8], index: u16, bytes: usize) -> Decided
     ensures { λ r. ⌜ r ≡ offeredOf (d .stations) (d .count) wire index bytes ⌝ }
 {
     let stations = d.stations;

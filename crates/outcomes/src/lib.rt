@@ -1,5 +1,6 @@
 // The outcome of a slot: what all stations with the same counters have in common, worked out once from the counters and a row that was
 // read, for a station and for a channel alike.
+use calendars::coming;
 use falling::fall;
 use minislot::Feedback;
 use minislot::MinislotFeedback;
@@ -62,7 +63,7 @@ pub fn outcome(c: Counters, row: RowReading, one: StepOne) -> Outcome
     let m = c.minislots;
     Outcome {
         group: c.next,
-        turn: turn(after),
+        turn: turn(coming(c), after),
         resolution: after.resolution,
         landed: landings(one.success, before, minislots, m),
         counters: fall(c, after),

@@ -9,7 +9,7 @@ use lib.ListN.{length, getD, drop, drop-of-length-le}
 use borrow.Author.Tests.{eq-eqb, ne-eqb}
 use Rattle.listlaws.proofs.Loops.{rest}
 use Rattle.rules.specs.declared.Station.{Station}
-use Rattle.channel_rules.specs.ChannelCalls.{positionOf}
+use Rattle.channel_rules.specs.Soundness.{positionOf}
 use Rattle.table.specs.Loading.{absent}
 
 module _ (index : ℕ) (l : List Station) (i : ℕ) (here : i + positionOf index (drop i l) ≡ positionOf index l) where

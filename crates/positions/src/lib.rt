@@ -3,7 +3,7 @@ use drawing::least;
 use rules::Station;
 ghost use mathlib.Core.Path.{_≡_};
 ghost use lib.ListN.{take};
-ghost use Rattle.channel_rules.specs.ChannelCalls.{positionOf};
+ghost use Rattle.channel_rules.specs.Soundness.{positionOf};
 
 // How many of the first n stations stand before the first of an index; all of them if there is none.
 pub fn position_of(stations: [Station; 64], n: usize, index: u16) -> usize

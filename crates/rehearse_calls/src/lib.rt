@@ -1,5 +1,6 @@
 // A record of `rehearse` that makes a call on the channel: the channel's own call, by what the record holds.
 use call_fields::OfferFields;
+use call_fields::calendar_fields;
 use call_fields::offer_fields;
 use number_lists::low_bytes;
 use number_lists::numbers_from;
@@ -11,8 +12,8 @@ ghost use mathlib.Core.Path.{_≡_};
 ghost use lib.ListN.{drop};
 ghost use Rattle.fields.specs.Fields.{parts};
 ghost use Rattle.number_lists.specs.NumberList.{listOf};
-ghost use Rattle.call_fields.specs.CallFields.{offerIn};
-ghost use Rattle.rehearsing.specs.Rehearsing.{offerResult, slotResult, bareResult};
+ghost use Rattle.call_fields.specs.CallFields.{offerIn, calendarIn};
+ghost use Rattle.rehearsing.specs.Rehearsing.{offerResult, slotResult, bareResult, calendarResult};
 ghost use Rattle.rehearsing.specs.Rehearse.{reachedBy, resultBy};
 
 // An offer, whose numbers begin after `offer,`. 19: it breaks the form. Every other answer is a line.
@@ -59,5 +60,22 @@ pub fn bare_slot(r: Rehearsal, next: usize, out: &mut [u8], at: usize) -> Next
 {
     let channel = r.channel;
     let called = local_channel::slot(channel, &[]);
+    answer_with(r, called, next, out, at)
+}
+
+// A calendar, whose entries begin after `calendar,`. 19: it breaks the form. Every other answer is a line.
+pub fn calendar_record(r: Rehearsal, bytes: &[u8], next: usize, out: &mut [u8], at: usize) -> Next
+    ensures buffer { λ n. ⌜ now (out .exit)
+        ≡ resultBy r (calendarResult r (calendarIn (parts (drop 9 (now (bytes .entry)))))) next (now (out .entry)) at .buffer ⌝ }
+    ensures answer { λ n. ⌜ reachedBy n
+        ≡ resultBy r (calendarResult r (calendarIn (parts (drop 9 (now (bytes .entry)))))) next (now (out .entry)) at .answer ⌝ }
+{
+    let fields = calendar_fields(bytes, 9);
+    if fields.number != 0 {
+        return end_with(r, fields.number, next, out, at);
+    }
+    let entries = fields.entries;
+    let channel = r.channel;
+    let called = local_channel::calendar(channel, entries);
     answer_with(r, called, next, out, at)
 }

@@ -1,4 +1,4 @@
--- The numbers of an answer on a sound channel: a refusal's is one of the paper's, at most 19; a message taken has at most 255 slots; of a slot, the
+-- The numbers of an answer on a sound channel: a refusal's is one of the paper's, at most 21; a message taken has at most 255 slots; of a slot, the
 -- senders are no more than the stations, a lone one's index and segment are a station's, and the slots delivered are no more than the
 -- minislots heard and the senders. So the line of an answer has at most 233 bytes.
 -- Assumes nothing.
@@ -7,7 +7,7 @@ use mathlib.Core.Bool.{Bool, true, false, cond, _&&_}
 use mathlib.Core.List.{List, [], _∷_, _++_, map}
 use Prim.Native.Nat.{ℕ, zero, suc, _+_, _-_, _<_, _≤_}
 use native.Mathlib.Omega.{arith}
-use lib.Dec.{eqb, ltb}
+use lib.Dec.{eqb}
 use lib.ListN.{length, getD, take, length-map, length-take}
 use borrow.Author.Tests.{eqb-true}
 use Rattle.listlaws.specs.Lists.{each, onlyIf}
@@ -18,17 +18,18 @@ use Rattle.minislot.specs.declared.Feedback.{Feedback}
 use Rattle.minislot.specs.declared.Feedback.the-variants.{Empty, Single, Collide}
 use Rattle.rows.specs.Row.{readings, feedbacks}
 use Rattle.rules.specs.declared.Answer.{Answer}
-use Rattle.rules.specs.declared.Answer.the-variants.{Refused, Taken, Went}
+use Rattle.rules.specs.declared.Answer.the-variants.{Refused, Taken, Set, Went}
 use Rattle.rules.specs.declared.Counters.{Counters}
 use Rattle.rules.specs.declared.Landed.{Landed}
 use Rattle.rules.specs.declared.Outcome.{Outcome}
 use Rattle.rules.specs.declared.Station.{Station}
 use Rattle.rules.specs.declared.StationSlot.{StationSlot}
 use Rattle.rules.specs.declared.Turn.{Turn}
-use Rattle.rules.specs.declared.Turn.the-variants.{Urgent as UrgentTurn, Long as LongTurn, Resolve as ResolveTurn, Open as OpenTurn}
+use Rattle.rules.specs.declared.Turn.the-variants.{Owned as OwnedTurn, Urgent as UrgentTurn, Long as LongTurn, Resolve as ResolveTurn, Open as OpenTurn}
 use Rattle.rules.specs.declared.Condition.{Condition}
 use Rattle.rules.specs.declared.Condition.the-variants.{Free, Fresh, Asked, Resolving, Urgent, Long}
-use Rattle.rules.specs.Calls.{Call, Offer, Slot}
+use Rattle.rules.specs.Calls.{Call, Offer, Slot, Calendar}
+use Rattle.rules.specs.Calendars.{someFree}
 use Rattle.rules.specs.Refusing.{unless, byNumber}
 use Rattle.rules.specs.Limits.{between}
 use Rattle.rules.specs.Hearing.{wordsOf, countsOf}
@@ -45,14 +46,15 @@ use Rattle.rules.specs.Queueing.{stepOneOf}
 use Rattle.rules.proofs.LimitLaws.{Within, within-limits, station-in}
 use Rattle.rules.proofs.Refusals.{test-passed}
 use Rattle.rules.proofs.Walking.{feedbacks-short}
-use Rattle.channel_rules.specs.Soundness.{soundTable, tableCounters}
+use Rattle.channel_rules.specs.Soundness.{soundTable, tableCounters, positionOf, isOnTable, entriesOn}
 use Rattle.channel_rules.specs.SoundMeaning.{stationAt}
-use Rattle.channel_rules.specs.ChannelCalls.{Channel, ChannelResult, hasStations, refused, hasIndex, stationOf, positionOf, takenAt, channelOfferNumberOf, channelOfferOf, channelCall}
+use Rattle.channel_rules.specs.ChannelCalls.{Channel, ChannelResult, hasStations, refused, stationOf, takenAt, channelOfferNumberOf, channelOfferOf, channelCall}
 use Rattle.channel_rules.specs.ChannelCalls.{blankRow, heardRow, feedbackHeard, slotsOf, slotsHeard, outcomeHeard, slotThrough, channelSlotNumberOf, channelSlotOf}
-use Rattle.channel_rules.specs.ChannelCalls.{DataSent, dataIn, dataSent, loneIndex, loneSegment, deliveredNow}
+use Rattle.channel_rules.specs.ChannelCalls.{calendarSet, channelCalendarNumberOf, channelCalendarOf}
+use Rattle.channel_rules.specs.ChannelCalls.{DataSent, speaks, dataIn, dataSent, loneIndex, loneSegment, deliveredNow}
 use Rattle.decimals.specs.Decimal.{digitsOf}
-use Rattle.call_records.specs.Words.{offerWord, slotWord}
-use Rattle.rules.proofs.Refusals.{unless-low}
+use Rattle.call_records.specs.Words.{offerWord, slotWord, calendarWord}
+use Rattle.rules.proofs.Refusals.{unless-by, unless-low}
 use Rattle.turn_letters.specs.Letters.{letterOf}
 use Rattle.answer_lines.specs.AnswerLines.{refusedWord, answerLine}
 use Rattle.rehearse_reads.specs.Bounds.{SoundChannel}
@@ -70,7 +72,7 @@ unfolding channelOfferNumberOf
 offer-low ch index bytes =
     unless-low (hasStations (ch .stations)) 14 _ (omega arith)
     (unless-low (soundTable (ch .stations) (ch .wire)) 18 _ (omega arith)
-    (unless-low (hasIndex ch index) 16 _ (omega arith) (taking-low (stationOf ch index .condition) bytes)))
+    (unless-low (isOnTable (ch .stations) index) 16 _ (omega arith) (taking-low (stationOf ch index .condition) bytes)))
 
 slot-low : (ch : Channel) (picks : List ℕ) → channelSlotNumberOf ch picks ≤ 19
 unfolding channelSlotNumberOf
@@ -81,15 +83,26 @@ slot-low ch picks =
     (unless-low (each (λ (pick : ℕ). between 1 pick (tableCounters (ch .stations) .minislots)) picks) 11 _ (omega arith)
     (unless-low (stepOneOf (tableCounters (ch .stations)) (feedbackHeard ch) .fits) 7 0 (omega arith) (omega arith)))))
 
+calendar-low : (ch : Channel) (entries : List ℕ) → channelCalendarNumberOf ch entries ≤ 21
+unfolding channelCalendarNumberOf
+calendar-low ch entries =
+    unless-by Low (hasStations (ch .stations)) 14 _ (omega arith)
+    (unless-by Low (soundTable (ch .stations) (ch .wire)) 18 _ (omega arith)
+    (unless-by Low (entriesOn (ch .stations) entries) 20 _ (omega arith) (unless-by Low (someFree entries) 21 0 (omega arith) (omega arith))))
+  where
+    Low : ℕ → Type 0
+    Low n = n ≤ 21
+
 -- ---- an answer's numbers
 
 abbrev pub AnswerHeld : Answer → Type 0
-AnswerHeld (Refused number) = number ≤ 19
+AnswerHeld (Refused number) = number ≤ 21
 AnswerHeld (Taken total) = total ≤ 255
+AnswerHeld Set = Unit {0}
 AnswerHeld (Went turn senders index segment delivered) = (senders ≤ 64) × (index ≤ 923) × (segment ≤ 255) × (delivered ≤ 72)
 
 -- by the number of the call
-by-both : (ch : Channel) (n : ℕ) (through : ChannelResult) → n ≤ 19 → (n ≡ 0 → AnswerHeld (through .answer))
+by-both : (ch : Channel) (n : ℕ) (through : ChannelResult) → n ≤ 21 → (n ≡ 0 → AnswerHeld (through .answer))
     → AnswerHeld (byNumber n (refused ch) through .answer)
 by-both ch n through low t = go (eqb n 0) refl
   where
@@ -97,18 +110,22 @@ by-both ch n through low t = go (eqb n 0) refl
     go true e = t (eqb-true n 0 e)
     go false e = low
 
--- ---- an offer
+-- ---- an offer, and a calendar, which answers no number
+
+calendar-held : (ch : Channel) (entries : List ℕ) → AnswerHeld (channelCalendarOf ch entries .answer)
+unfolding channelCalendarOf
+calendar-held ch entries = by-both ch (channelCalendarNumberOf ch entries) (calendarSet ch entries) (calendar-low ch entries) (λ z. tt)
 
 offer-held : (ch : Channel) (index bytes : ℕ) → AnswerHeld (channelOfferOf ch index bytes .answer)
 unfolding channelOfferOf channelOfferNumberOf
 offer-held ch index bytes =
-    by-both ch (channelOfferNumberOf ch index bytes) (takenAt ch (positionOf index (ch .stations)) bytes) (offer-low ch index bytes) taken
+    by-both ch (channelOfferNumberOf ch index bytes) (takenAt ch (positionOf index (ch .stations)) bytes) (omega (arith, offer-low ch index bytes)) taken
   where
     taken : channelOfferNumberOf ch index bytes ≡ 0 → slotsFor bytes ≤ 255
     taken z =
         let p₁ = test-passed (hasStations (ch .stations)) 14 _ refl z in
         let p₂ = test-passed (soundTable (ch .stations) (ch .wire)) 18 _ refl (p₁ .1) in
-        let p₃ = test-passed (hasIndex ch index) 16 _ refl (p₂ .1) in
+        let p₃ = test-passed (isOnTable (ch .stations) index) 16 _ refl (p₂ .1) in
         let p₄ = test-passed (isFree (stationOf ch index .condition)) 9 _ refl (p₃ .1) in
         let p₅ = test-passed (fitsMessage bytes) 10 0 refl (p₄ .1) in
         slots-bounds bytes (p₅ .0) .1
@@ -145,6 +162,7 @@ if-few false n h = omega arith
 
 sends-few : (turn : Turn) (r g : ℕ) (x : Condition) → totalOf x ≤ 255 → sends turn r g x ≤ 255
 unfolding sends
+sends-few (OwnedTurn x) r g k h = omega arith
 sends-few UrgentTurn r g Free h = omega arith
 sends-few UrgentTurn r g (Fresh t) h = omega arith
 sends-few UrgentTurn r g (Asked y j t) h = omega arith
@@ -192,7 +210,7 @@ step-sends o s pick e =
     let total = small-total (s .condition) (small (s .counters) (within-limits (s .counters) (i .counters)) (s .condition) (i .condition)) in
     let stands = settledIn (o .landed) (o .group) (s .condition) in
     let segment = sends (o .turn) (o .resolution) (o .group) stands in
-    only (ltb 0 segment) segment (i .index) (sends-few (o .turn) (o .resolution) (o .group) stands (settled-few (o .landed) (o .group) (s .condition) total))
+    only (speaks (o .turn) (s .index) segment) segment (i .index) (sends-few (o .turn) (o .resolution) (o .group) stands (settled-few (o .landed) (o .group) (s .condition) total))
   where
     only : (b : Bool) (segment : ℕ) → s .index ≤ 923 → segment ≤ 255 → Few 1 (onlyIf b (record { index = s .index; segment = segment } ∷ []))
     only true segment l h = (omega arith, (l, h, tt))
@@ -231,6 +249,7 @@ successes-few b (Single i c ∷ row) = go (b && eqb c 1) (successes-few b row)
 successes-few b (Collide ∷ row) = omega (arith, successes-few b row)
 
 now-few : (turn : Turn) (senders : ℕ) → deliveredNow turn senders ≤ senders
+now-few (OwnedTurn x) senders = omega arith
 now-few UrgentTurn senders = omega arith
 now-few LongTurn senders = omega arith
 now-few ResolveTurn senders = omega arith
@@ -246,7 +265,7 @@ heard-few ch h =
 slot-held : (ch : Channel) → SoundChannel ch → (picks : List ℕ) → AnswerHeld (channelSlotOf ch picks .answer)
 unfolding channelSlotOf outcomeBy
 slot-held ch s picks =
-    by-both ch (channelSlotNumberOf ch picks) (slotThrough ch (outcomeHeard ch) (slotsHeard ch picks)) (slot-low ch picks) (λ z.
+    by-both ch (channelSlotNumberOf ch picks) (slotThrough ch (outcomeHeard ch) (slotsHeard ch picks)) (omega (arith, slot-low ch picks)) (λ z.
     let sent = dataSent (slotsHeard ch picks) in
     let p = all-send (wordsOf (heardRow ch)) (countsOf (heardRow ch)) (ch .stations) picks (s .sound .within) in
     let l = lone sent (p .1) in
@@ -267,6 +286,7 @@ slot-held ch s picks =
 pub call-held : (ch : Channel) → SoundChannel ch → (call : Call) → AnswerHeld (channelCall ch call .answer)
 call-held ch s (Offer index bytes) = offer-held ch index bytes
 call-held ch s (Slot picks) = slot-held ch s picks
+call-held ch s (Calendar entries) = calendar-held ch entries
 
 -- ---- THE LINE
 
@@ -276,6 +296,8 @@ answer-line k group c (Refused number) hk hg w h =
     let l = line-within (digitsOf k ∷ refusedWord ∷ digitsOf number ∷ []) (omega (arith, number-short k hk, number-short number (omega arith))) in omega (arith, l)
 answer-line k group c (Taken total) hk hg w h =
     let l = line-within (digitsOf k ∷ offerWord ∷ digitsOf total ∷ []) (omega (arith, number-short k hk, number-short total (omega arith))) in omega (arith, l)
+answer-line k group c Set hk hg w h =
+    let l = line-within (digitsOf k ∷ calendarWord ∷ []) (omega (arith, number-short k hk)) in omega (arith, l)
 answer-line k group c (Went turn senders index segment delivered) hk hg w h =
     let rq = getD (c .resolution) (group - 1) 0 in
     let numbers = senders ∷ index ∷ segment ∷ delivered ∷ c .urgent ∷ c .long ∷ rq ∷ [] in

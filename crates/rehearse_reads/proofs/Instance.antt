@@ -1,6 +1,6 @@
 -- No record of `rehearse` prints more than 16,384 bytes, whatever it is, and its number stays in 64 bits: so `rehearse` is lawful, and what
 -- holds of any lawful program holds of it. A refusal's number is at most 19; of a channel that began with a start that went through the line of
--- a call has at most 233 bytes and all that is shown at most 13,749.
+-- a call has at most 233 bytes and all that is shown at most 14,318.
 -- Assumes nothing.
 use mathlib.Core.Bool.{Bool, true, false, cond, _&&_}
 use mathlib.Core.Path.{_≡_, refl, sym, ap, subst}
@@ -19,7 +19,7 @@ use Rattle.call_records.specs.Words.{kindOf}
 use Rattle.call_fields.specs.declared.OfferFields.{OfferFields}
 use Rattle.call_fields.specs.declared.OfferFields.the-variants.{Numbers, Broken}
 use Rattle.call_fields.specs.declared.StartFields.{StartFields}
-use Rattle.call_fields.specs.CallFields.{offerIn, brokenStart, startIn}
+use Rattle.call_fields.specs.CallFields.{offerIn, brokenStart, startIn, brokenCalendar, calendarIn}
 use Rattle.answer_lines.specs.AnswerLines.{answerLine}
 use Rattle.show_lines.specs.ShowLines.{showLines}
 use Rattle.refusals.proofs.RefusalLaws.{refusal-within}
@@ -31,7 +31,7 @@ use Rattle.programs.specs.Program.{Result, Ends}
 use Rattle.rules.specs.declared.Counters.{Counters}
 use Rattle.rules.specs.declared.StartAnswer.{StartAnswer}
 use Rattle.rules.specs.declared.StartAnswer.the-variants.{Ready, Refused}
-use Rattle.rules.specs.Calls.{Call, Offer, Slot}
+use Rattle.rules.specs.Calls.{Call, Offer, Slot, Calendar}
 use Rattle.rules.specs.Limits.{between}
 use Rattle.rules.specs.Refusing.{byNumber}
 use Rattle.rules.specs.Starting.{inRanges}
@@ -39,10 +39,10 @@ use Rattle.rules.specs.StationCalls.{isIndex}
 use Rattle.places.specs.Places.{differ}
 use Rattle.channel_rules.specs.ChannelCalls.{Channel, refusedBeginning, newChannel, channelStartNumberOf, channelStartOf, channelCall}
 use Rattle.local_channel.specs.declared.LocalChannel.{LocalChannel}
-use Rattle.local_channel.specs.Local.{lentBy, localAfter, localCalled, localStartOf, localOfferOf, localSlotOf}
+use Rattle.local_channel.specs.Local.{lentBy, localAfter, localCalled, localStartOf, localOfferOf, localSlotOf, localCalendarOf}
 use Rattle.rehearsing.specs.declared.Rehearsal.{Rehearsal}
 use Rattle.rehearsing.specs.Rehearsing.{blankChannel, countersOf, indexesOf, startedBy, startedResult, startOf, startResult}
-use Rattle.rehearsing.specs.Rehearsing.{calledResult, offerResult, slotResult, bareResult, showResult, callBy, rehearseRecord}
+use Rattle.rehearsing.specs.Rehearsing.{calledResult, offerResult, slotResult, bareResult, calendarResult, showResult, callBy, rehearseRecord}
 use Rattle.rehearsing.specs.Rehearse.{rehearseProgram}
 use Rattle.reads.specs.Lawful.{Allowed, Lawful}
 use Rattle.reads.proofs.InReads.{in-pieces}
@@ -76,6 +76,14 @@ start-low (p ∷ q ∷ ps) = go (isNumber 255 p && isNumber 255 q) (eqb (listOf 
     go true true = omega arith
     go true false = omega arith
     go false b = omega arith
+
+calendar-low : (ps : List (List ℕ)) → calendarIn ps .number ≤ 19
+unfolding calendarIn brokenCalendar
+calendar-low ps = go (eqb (length ps) 24 && every (isNumber 65535) ps)
+  where
+    go : (b : Bool) → cond b (record { number = 0; entries = map numeral ps }) brokenCalendar .number ≤ 19
+    go true = omega arith
+    go false = omega arith
 
 channel-start-low : (count m n : ℕ) (indexes : List ℕ) → channelStartNumberOf count m n indexes ≤ 19
 unfolding channelStartNumberOf
@@ -165,6 +173,10 @@ module _ (r : Rehearsal) (good : Good r) where
     unfolding bareResult localSlotOf
     bare-fits = called-fits (Slot [])
 
+    calendar-fits : (ps : List (List ℕ)) → Fits (calendarResult r (calendarIn ps))
+    unfolding calendarResult localCalendarOf
+    calendar-fits ps = let fields = calendarIn ps in by-both (fields .number) _ (calendar-low ps) (called-fits (Calendar (fields .entries)))
+
     show-fits : Fits (showResult r)
     unfolding showResult
     show-fits =
@@ -178,6 +190,7 @@ module _ (r : Rehearsal) (good : Good r) where
     call-fits bytes kind.Offer = offer-fits (offerIn (parts (drop 6 bytes)))
     call-fits bytes kind.Slot = slot-fits (parts (drop 5 bytes))
     call-fits bytes kind.BareSlot = bare-fits
+    call-fits bytes kind.Calendar = calendar-fits (parts (drop 9 bytes))
     call-fits bytes kind.Show = show-fits
     call-fits bytes kind.Unknown = ends-fit 19 (omega arith)
 

@@ -1,7 +1,7 @@
--- All that `show` prints of a sound channel of 64 stations at most: no more than 13,749 bytes, which is 149 for the counters, 107 for each of
--- 8 groups, 149 for each station and 401 for each of 8 rows.
+-- All that `show` prints of a sound channel of 64 stations at most: no more than 14,318 bytes, which is 149 for the counters, 569 for the
+-- owners, 107 for each of 8 groups, 149 for each station and 401 for each of 8 rows.
 -- Assumes nothing.
-use mathlib.Core.List.{_++_, map}
+use mathlib.Core.List.{_∷_, _++_, map}
 use Prim.Native.Nat.{ℕ, _+_, _*_, _≤_}
 use native.Mathlib.Omega.{arith}
 use lib.ListN.{length, length-append}
@@ -14,11 +14,11 @@ use Rattle.channel_rules.specs.SoundMeaning.{stationAt}
 use Rattle.channel_rules.specs.ChannelCalls.{Channel}
 use Rattle.message_lines.specs.MessageLines.{messageLine}
 use Rattle.wire_lines.specs.WireLines.{wireLine, groupsLines}
-use Rattle.counter_lines.specs.CounterLines.{countersLine, groupLine}
+use Rattle.counter_lines.specs.CounterLines.{countersLine, ownersLine, groupLine}
 use Rattle.show_lines.specs.ShowLines.{showLines}
 use Rattle.rehearse_reads.specs.Bounds.{SoundChannel, ShownWithin}
 use Rattle.rehearse_reads.proofs.LineBounds.{Held, joined-two, mapped-within, tabulated-within}
-use Rattle.rehearse_reads.proofs.StationBounds.{counters-line, group-line, message-line}
+use Rattle.rehearse_reads.proofs.StationBounds.{counters-line, owners-line, group-line, message-line}
 use Rattle.rehearse_reads.proofs.WireBounds.{wire-line}
 
 -- the counters that all its stations share are within their limits
@@ -43,7 +43,7 @@ module _ (ch : Channel) (s : SoundChannel ch) (k : ℕ) (h : Held k) where
       tabulated-within 401 (c .groups) (λ i. wireLine k (c .minislots) (ch .wire) (i + 1))
       (λ i q. wire-line (ch .stations) (ch .wire) (s .sound) (i + 1) (omega arith) (omega (arith, w .groups)) k (c .minislots) h (w .minislots .1))
 
-  all-within : length (joined (showLines k c (ch .stations) (ch .wire))) ≤ 13749
+  all-within : length (joined (showLines k c (ch .stations) (ch .wire))) ≤ 14318
   unfolding showLines
   all-within =
       let groups = groupsLines (c .groups) (groupLine k c) in
@@ -51,10 +51,12 @@ module _ (ch : Channel) (s : SoundChannel ch) (k : ℕ) (h : Held k) where
       let rows = groupsLines (c .groups) (wireLine k (c .minislots) (ch .wire)) in
       omega (
         arith,
-        length-append (countersLine k c) (joined (groups ++ messages ++ rows)),
+        length-append (countersLine k c) (joined (ownersLine k c ∷ groups ++ messages ++ rows)),
+        length-append (ownersLine k c) (joined (groups ++ messages ++ rows)),
         joined-two (groups ++ messages) rows,
         joined-two groups messages,
         counters-line k c h w,
+        owners-line k c h w,
         groups-within,
         messages-within,
         rows-within,

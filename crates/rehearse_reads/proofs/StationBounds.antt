@@ -1,30 +1,32 @@
 -- The numbers of counters and of a station's record that are within their limits are numbers of 64 bits: so the lines that `show` prints of
--- the counters, of a group and of a station's message have at most 149 bytes.
+-- the counters, of a group and of a station's message have at most 149 bytes, and that of the owners at most 569.
 -- Assumes nothing.
-use mathlib.Core.Path.{_≡_}
-use mathlib.Core.Bool.{Bool, true, false, cond, _&&_}
-use mathlib.Core.List.{[], _∷_}
+use mathlib.Core.Path.{_≡_, refl}
+use mathlib.Core.Bool.{Bool, true, false, cond, _&&_, _||_}
+use mathlib.Core.List.{List, [], _∷_, map}
 use mathlib.Core.Logic.{by-cases}
 use Prim.Native.Nat.{ℕ, _+_, _-_, _≤_}
 use native.Mathlib.Omega.{arith}
 use native.Mathlib.Decide.{decLt}
 use lib.Dec.{leb, ltb, eqb}
-use lib.ListN.{length, getD, List·getD-eq-default}
+use lib.ListN.{length, getD, length-map, List·getD-eq-default}
 use borrow.Author.Tests.{leb-true, eqb-true}
 use Rattle.listlaws.specs.Every.{everyFrom}
+use Rattle.listlaws.specs.Lists.{each}
 use Rattle.listlaws.proofs.Table.{every-at}
 use Rattle.rules.specs.declared.Counters.{Counters}
 use Rattle.rules.specs.declared.Station.{Station}
 use Rattle.rules.specs.declared.Condition.{Condition}
 use Rattle.rules.specs.declared.Condition.the-variants.{Free, Fresh, Asked, Resolving, Urgent, Long}
+use Rattle.rules.specs.Calendars.{entryWithin}
 use Rattle.rules.specs.Limits.{between, resolutionWithin, openedWithin, groupsWithin}
 use Rattle.rules.specs.StationLimits.{isTotal, resolutionAt, conditionWithin, stationWithin}
-use Rattle.rules.proofs.LimitLaws.{Within, within-limits, between-bounds, station-in}
+use Rattle.rules.proofs.LimitLaws.{Within, within-limits, between-bounds, calendar-in, station-in}
 use Rattle.rules.proofs.SlotStep.{and-both}
 use Rattle.decimals.specs.Decimal.{digitsOf}
 use Rattle.condition_lines.specs.ConditionLines.{messageWord, conditionFields, conditionLine}
 use Rattle.message_lines.specs.MessageLines.{messageLine}
-use Rattle.counter_lines.specs.CounterLines.{markWord, countersLine, groupLine}
+use Rattle.counter_lines.specs.CounterLines.{ownersWord, markWord, countersLine, ownersLine, groupLine}
 use Rattle.rehearse_reads.proofs.LineBounds.{Short, Held, AllHeld, line-within, number-short, numbers-short}
 
 -- ---- counters
@@ -53,6 +55,27 @@ counters-line k c h w =
     let numbers = c .minislots ∷ c .groups ∷ c .next ∷ c .urgent ∷ c .long ∷ [] in
     let held : AllHeld numbers = omega (arith, w .minislots, w .groups, w .next, w .urgent, w .long) in
     line-within _ (number-short k h, (omega arith, numbers-short numbers held))
+
+-- an entry is 65,535 or an index
+entries-held : (l : List ℕ) → each entryWithin l ≡ true → AllHeld l
+entries-held [] e = tt
+entries-held (x ∷ l) e =
+    let p = and-both (entryWithin x) (each entryWithin l) e in
+    (go (eqb x 65535) (leb x 923) refl refl (p .0), entries-held l (p .1))
+  where
+    go : (a b : Bool) → eqb x 65535 ≡ a → leb x 923 ≡ b → a || b ≡ true → Held x
+    go true b f g t = let z = eqb-true x 65535 f in omega arith
+    go false true f g t = let z = leb-true x 923 g in omega arith
+    go false false f g t = let z : _≡_ {A = ℕ} 0 1 = cc in absurd (omega arith)
+
+pub owners-line : (k : ℕ) (c : Counters) → Held k → Within c → length (ownersLine k c) ≤ 569
+unfolding ownersLine
+owners-line k c h w =
+    let i = calendar-in c (w .calendar) in
+    let numbers = c .position ∷ c .calendar in
+    let held : AllHeld numbers = (omega (arith, i .position), entries-held (c .calendar) (i .entries)) in
+    let l = line-within (digitsOf k ∷ ownersWord ∷ map digitsOf numbers) (number-short k h, (omega arith, numbers-short numbers held)) in
+    omega (arith, l, length-map (c .calendar) digitsOf, i .size)
 
 mark-short : (b : Bool) → length (markWord b) ≤ 20
 mark-short true = omega arith

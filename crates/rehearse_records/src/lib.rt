@@ -5,6 +5,7 @@ use programs::Progress;
 use programs::past_first;
 use programs::place_following;
 use rehearse_calls::bare_slot;
+use rehearse_calls::calendar_record;
 use rehearse_calls::offer_record;
 use rehearse_calls::slot_record;
 use rehearse_starts::start_record;
@@ -60,6 +61,7 @@ pub fn rehearse_record(r: Rehearsal, bytes: &[u8], next: usize, out: &mut [u8], 
         Kind::Slot => slot_record(r, bytes, next, out, at),
         Kind::Offer => offer_record(r, bytes, next, out, at),
         Kind::BareSlot => bare_slot(r, next, out, at),
+        Kind::Calendar => calendar_record(r, bytes, next, out, at),
         Kind::Show => show_record(r, next, out, at),
         Kind::Unknown => end_with(r, 19, next, out, at),
     }

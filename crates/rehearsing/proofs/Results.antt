@@ -13,13 +13,14 @@ use Rattle.number_lists.proofs.LowBytes.{low-used}
 use Rattle.call_fields.specs.declared.OfferFields.{OfferFields}
 use Rattle.call_fields.specs.declared.OfferFields.the-variants.{Numbers, Broken}
 use Rattle.call_fields.specs.declared.StartFields.{StartFields}
+use Rattle.call_fields.specs.declared.CalendarFields.{CalendarFields}
 use Rattle.local_channel.specs.declared.LocalCalled.{LocalCalled}
 use Rattle.local_channel.specs.declared.LocalStarted.{LocalStarted}
-use Rattle.local_channel.specs.Local.{localOfferOf, localSlotOf}
+use Rattle.local_channel.specs.Local.{localOfferOf, localSlotOf, localCalendarOf}
 use Rattle.programs.specs.Program.{Result, Ends}
 use Rattle.programs.specs.Buffering.{Reached}
 use Rattle.rehearsing.specs.declared.Rehearsal.{Rehearsal}
-use Rattle.rehearsing.specs.Rehearsing.{calledResult, startedResult, startOf, startResult, offerResult, slotResult, bareResult}
+use Rattle.rehearsing.specs.Rehearsing.{calledResult, startedResult, startOf, startResult, offerResult, slotResult, bareResult, calendarResult}
 use Rattle.rehearsing.specs.Rehearse.{resultBy}
 
 -- so many numbers of an array that has them
@@ -62,6 +63,15 @@ module _ (r : Rehearsal) where
   pub bare-called : {called : LocalCalled} → called ≡ localSlotOf (r .channel) [] → calledResult r called ≡ bareResult r
   unfolding bareResult
   bare-called f = rw f
+
+  pub calendar-broken : (fields : CalendarFields) → (fields .number ≡ 0 → ⊥) → Ends (fields .number) ≡ calendarResult r fields
+  unfolding calendarResult
+  calendar-broken fields h = rw (ne-eqb _ _ h)
+
+  pub calendar-called : (fields : CalendarFields) {called : LocalCalled} → fields .number ≡ 0
+      → called ≡ localCalendarOf (r .channel) (fields .entries) → calledResult r called ≡ calendarResult r fields
+  unfolding calendarResult
+  calendar-called fields h f = rw (eq-eqb _ _ h, f)
 
   pub start-broken : (s : StartFields) → (s .number ≡ 0 → ⊥) → Ends (s .number) ≡ startResult r s
   unfolding startResult

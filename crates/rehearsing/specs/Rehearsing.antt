@@ -15,7 +15,8 @@ use Rattle.call_records.specs.Words.{kindOf}
 use Rattle.call_fields.specs.declared.OfferFields.{OfferFields}
 use Rattle.call_fields.specs.declared.OfferFields.the-variants.{Numbers, Broken}
 use Rattle.call_fields.specs.declared.StartFields.{StartFields}
-use Rattle.call_fields.specs.CallFields.{offerIn, startIn}
+use Rattle.call_fields.specs.declared.CalendarFields.{CalendarFields}
+use Rattle.call_fields.specs.CallFields.{offerIn, startIn, calendarIn}
 use Rattle.answer_lines.specs.AnswerLines.{answerLine}
 use Rattle.show_lines.specs.ShowLines.{showLines}
 use Rattle.programs.specs.Places.{placeFollowing}
@@ -30,7 +31,7 @@ use Rattle.channel_rules.specs.ChannelCalls.{blankWire}
 use Rattle.local_channel.specs.declared.LocalChannel.{LocalChannel}
 use Rattle.local_channel.specs.declared.LocalStarted.{LocalStarted}
 use Rattle.local_channel.specs.declared.LocalCalled.{LocalCalled}
-use Rattle.local_channel.specs.Local.{localStartOf, localOfferOf, localSlotOf}
+use Rattle.local_channel.specs.Local.{localStartOf, localOfferOf, localSlotOf, localCalendarOf}
 use Rattle.rehearsing.specs.declared.Rehearsal.{Rehearsal}
 
 -- a table of so many records that stand for no station, and a silent wire
@@ -67,8 +68,8 @@ startOf s = localStartOf (blankChannel (s .indexes .count)) (s .m) (s .n) (index
 unfoldable pub startResult : Rehearsal → StartFields → Result Rehearsal
 startResult r s = byNumber (s .number) Ends (startedResult r (startOf s))
 
--- ---- an offer and a slot: the call's line, by the counters after it and the group whose slot was next before it. The number of a call in
--- ---- the list is that of its record where the start does not count
+-- ---- an offer, a slot and a calendar: the call's line, by the counters after it and the group whose slot was next before it. The number
+-- ---- of a call in the list is that of its record where the start does not count
 
 abbrev pub calledResult : Rehearsal → LocalCalled → Result Rehearsal
 calledResult r called =
@@ -85,6 +86,9 @@ slotResult r picks = byNumber (picks .number) Ends (calledResult r (localSlotOf 
 unfoldable pub bareResult : Rehearsal → Result Rehearsal
 bareResult r = calledResult r (localSlotOf (r .channel) [])
 
+unfoldable pub calendarResult : Rehearsal → CalendarFields → Result Rehearsal
+calendarResult r fields = byNumber (fields .number) Ends (calledResult r (localCalendarOf (r .channel) (fields .entries)))
+
 -- ---- to be shown the channel
 
 unfoldable pub showResult : Rehearsal → Result Rehearsal
@@ -92,12 +96,13 @@ showResult r =
     let c = r .channel in
     Goes (withChannel r c) (showLines (r .place - 1) (countersOf c) (take (c .count) (c .stations)) (c .wire))
 
--- ---- a record after the first, by the word that it begins with; `offer,` has 6 bytes and `slot,` 5
+-- ---- a record after the first, by the word that it begins with; `offer,` has 6 bytes, `slot,` 5 and `calendar,` 9
 
 abbrev pub callBy : Rehearsal → List ℕ → Kind → Result Rehearsal
 callBy r bytes kind.Offer = offerResult r (offerIn (parts (drop 6 bytes)))
 callBy r bytes kind.Slot = slotResult r (listOf 255 (parts (drop 5 bytes)))
 callBy r bytes kind.BareSlot = bareResult r
+callBy r bytes kind.Calendar = calendarResult r (calendarIn (parts (drop 9 bytes)))
 callBy r bytes kind.Show = showResult r
 callBy r bytes kind.Unknown = Ends 19
 

@@ -14,12 +14,13 @@ ghost use lib.ListN.{set};
 ghost use Rattle.channel_rules.specs.ChannelCalls.{deliveredNow};
 ghost use Rattle.replying.specs.Replying.{replyOf, Answerable};
 
-// The slots delivered as they are sent.
+// The slots delivered as they are sent. A stream is in no total.
 fn delivered_now(t: Turn, senders: u8) -> u8
     ensures { λ r. ⌜ r ≡ deliveredNow t senders ⌝ }
     ensures few { λ r. ⌜ r ≤ senders ⌝ }
 {
     match t {
+        Turn::Owned { .. } => 0,
         Turn::Urgent => senders,
         Turn::Long => senders,
         Turn::Resolve => 0,

@@ -13,11 +13,11 @@ use Rattle.rules.proofs.Newcomers.{ofBy-append}
 use Rattle.rules.proofs.SlotStep.{and-both, slot-same, slot-answer, settled-eq, passes-eq, length-asking}
 use Rattle.message.specs.Message.{fitsMessage, slotsFor, ceiling}
 use Rattle.rules.proofs.Relation.{Agrees, Numbered, Same, SameResult, Fits, remaining, whole}
-use Rattle.rules.proofs.Shared.{Table, TableResult, tableStart, tableRefuse, tableAccept, tableOffer, tableCall, tableSettled, tableSlot, tableRow, tableSuccess}
+use Rattle.rules.proofs.Shared.{Table, TableResult, tableStart, tableRefuse, tableAccept, tableOffer, tableSet, tableCall, tableSettled, tableSlot, tableRow, tableSuccess}
 use Rattle.rules.proofs.Views.{eqb-self, seen}
-use Rattle.rules.specs.Calls.{Start, Call, Offer, Slot}
+use Rattle.rules.specs.Calls.{Start, Call, Offer, Slot, Calendar}
 use Rattle.rules.specs.Messages.{Message, Segment, of, segmentsFrom, deliveredOf}
-use Rattle.rules.specs.Plain.{stationFrom, inRange, Plain, PlainResult, plainStart, plainRefuse, plainAccept, plainOffer, plainCall, overflows, waits, slotSum, askingRow, plainSettled, plainSlot}
+use Rattle.rules.specs.Plain.{stationFrom, inRange, Plain, PlainResult, plainStart, plainRefuse, plainAccept, plainOffer, among, onChannel, plainSet, plainCall, overflows, waits, slotSum, askingRow, plainSettled, plainSlot}
 use Rattle.rules.specs.Queueing.{passes}
 use Rattle.rules.specs.Serving.{waiting}
 use Rattle.rules.specs.StationCalls.{isFree}
@@ -56,6 +56,11 @@ begin-same S h =
       rq = λ g. refl;
       opened = λ g. refl;
       next = refl;
+      calendar = refl;
+      position = refl;
+      size = refl;
+      owners = refl;
+      free = refl;
       low = omega arith;
       high = h;
       rows = λ g. length-asking (λ z. 0) [] (S .m) 1;
@@ -203,6 +208,11 @@ module _ (S : Start) (p : Plain) (t : Table) (R : Same S p t) (k s : ℕ) (insid
               rq = R .rq;
               opened = R .opened;
               next = R .next;
+              calendar = R .calendar;
+              position = R .position;
+              size = R .size;
+              owners = R .owners;
+              free = R .free;
               low = R .low;
               high = R .high;
               rows = R .rows;
@@ -223,6 +233,55 @@ module _ (S : Start) (p : Plain) (t : Table) (R : Same S p t) (k s : ℕ) (insid
       go : (i : ℕ) (b : Bool) → eqb i k ≡ b → Agrees S (plainAccept p (newcomer p k s) .state) i (cond b (newcomer p k s) (R .message i)) (cond b (Fresh s) (t .condition i))
       go i true e = rw (eqb-true i k e) accept-own
       go i false e = accept-other i e
+
+-- a calendar set: 24 entries, each free or a station's, some of them free. Nothing else changes
+set-same : (S : Start) (p : Plain) (t : Table) (entries : List ℕ) → Same S p t → length entries ≡ 24 → onChannel (S .indexes) entries ≡ true
+    → among entries 65535 ≡ true → SameResult S (plainSet p entries) (tableSet t entries)
+set-same S p t entries R size owners free =
+    record {
+      state =
+          record {
+            h = R .h;
+            n = R .n;
+            rq = R .rq;
+            opened = R .opened;
+            next = R .next;
+            calendar = refl;
+            position = R .position;
+            size = size;
+            owners = owners;
+            free = free;
+            low = R .low;
+            high = R .high;
+            rows = R .rows;
+            crowds = R .crowds;
+            message = R .message;
+            agrees = λ k. stays k (R .agrees k);
+            outside = R .outside;
+            strangers = R .strangers;
+            numbered = R .numbered;
+            idle = R .idle;
+            hmax = R .hmax;
+            nmax = R .nmax;
+            rmax = R .rmax;
+          };
+      answer = refl;
+    }
+  where
+    stays : (k : ℕ) → Agrees S p k (R .message k) (t .condition k) → Agrees S (plainSet p entries .state) k (R .message k) (t .condition k)
+    stays k a =
+        record {
+          mine = a .mine;
+          some = a .some;
+          few = a .few;
+          fresh = a .fresh;
+          urgent = a .urgent;
+          long = a .long;
+          asking = a .asking;
+          resolution = a .resolution;
+          owed = a .owed;
+          fits = a .fits;
+        }
 
 -- a message that fits takes 1 to 255 slots
 pub good-size : (bytes : ℕ) → fitsMessage bytes ≡ true → (1 ≤ slotsFor bytes) × (slotsFor bytes ≤ 255)
@@ -270,9 +329,19 @@ module _ (S : Start) (ml : 1 ≤ S .m) (p : Plain) (t : Table) (R : Same S p t) 
       go true e = rw (← e) (refused S p t 7 R)
       go false e = rw (← e) (record { state = slot-same S pick jl jh p t R (sym e); answer = slot-answer S pick jl jh p t R })
 
+  set-go : (entries : List ℕ) → (eqb (length entries) 24 && onChannel (S .indexes) entries) ≡ true
+      → SameResult S (cond (among entries 65535) (plainSet p entries) (plainRefuse p 21)) (cond (among entries 65535) (tableSet t entries) (tableRefuse t 21))
+  set-go entries e =
+      let (size, owners) = and-both (eqb (length entries) 24) (onChannel (S .indexes) entries) e in
+      both S (among entries 65535) _ _ _ _ (λ a. set-same S p t entries R (eqb-true (length entries) 24 size) owners a) (λ a. refused S p t 21 R)
+
   pub call-same : (c : Call) → SameResult S (plainCall S p c) (tableCall S t c)
   call-same (Offer x bytes) = offer-same bytes (stationFrom 0 (S .indexes) x) (λ k e. omega (arith, station-below (S .indexes) x 0 k e))
   call-same (Slot picks) =
       both S (eqb (length picks) (length (S .indexes))) _ _ _ _
       (λ a. both S (inRange (S .m) picks) _ _ _ _ (λ b. slot-go picks b) (λ b. refused S p t 11 R))
       (λ a. refused S p t 17 R)
+  call-same (Calendar entries) =
+      both S (eqb (length entries) 24 && onChannel (S .indexes) entries) _ _ _ _
+      (λ a. set-go entries a)
+      (λ a. refused S p t 20 R)

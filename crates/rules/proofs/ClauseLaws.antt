@@ -1,7 +1,8 @@
 -- The rules of specs/ and their shape by clauses are equal: step by step, for conditions whose places count from 1. Assumes nothing.
-use mathlib.Core.Path.{_≡_, refl, ap, _∙_}
+use mathlib.Core.Path.{_≡_, refl, sym, ap, _∙_}
 use mathlib.Core.Bool.{Bool, true, false, cond}
 use mathlib.Core.List.{List, [], _∷_}
+use mathlib.Core.Option.{Option, none, some}
 use Prim.Native.Nat.{ℕ, zero, suc, _-_, _≤_}
 use native.Mathlib.Omega.{arith}
 use lib.Dec.{ltb, eqb}
@@ -16,7 +17,8 @@ use Rattle.rules.specs.Falling.{urgentFalls, longFalls}
 use Rattle.rules.specs.StationLimits.{Condition, Free, Fresh, Asked, Resolving, Urgent, Long}
 use Rattle.rules.specs.Requesting.{requests, requested}
 use Rattle.rules.specs.Serving.{sends, moved}
-use Rattle.rules.proofs.Clauses.{after, settle, front, asks, lower, shorter, falls, sendsBy, less, nLeft}
+use Rattle.rules.proofs.Clauses.{after, settle, front, asks, lower, shorter, falls, heeded, sendsBy, sendsIn, less, hLeft, nLeft}
+use Rattle.rules.proofs.FallViews.{falls-still}
 use Rattle.rules.proofs.Settled.{standsAfter, settledBy}
 
 -- a place, a minislot and a stretch count from 1, and a stretch has no more left than its total
@@ -54,26 +56,26 @@ settle-is b g p row (Long f l t) w = refl
 
 -- ---- step 2
 
-pub turn-urgent : (h n r : ℕ) → turnOf (places (suc h) n r) ≡ UrgentTurn
+pub turn-urgent : (h n r : ℕ) → turnOf none (places (suc h) n r) ≡ UrgentTurn
 unfolding turnOf
 turn-urgent h n r = rw (lt-ltb 0 (suc h) (omega arith))
 
-pub turn-long : (n r : ℕ) → turnOf (places 0 (suc n) r) ≡ LongTurn
+pub turn-long : (n r : ℕ) → turnOf none (places 0 (suc n) r) ≡ LongTurn
 unfolding turnOf
 turn-long n r = rw (lt-ltb 0 (suc n) (omega arith))
 
-pub turn-resolve : (r : ℕ) → turnOf (places 0 0 (suc r)) ≡ ResolveTurn
+pub turn-resolve : (r : ℕ) → turnOf none (places 0 0 (suc r)) ≡ ResolveTurn
 unfolding turnOf
 turn-resolve r = rw (lt-ltb 0 (suc r) (omega arith))
 
-pub turn-open : turnOf (places 0 0 0) ≡ OpenTurn
+pub turn-open : turnOf none (places 0 0 0) ≡ OpenTurn
 unfolding turnOf
 turn-open = refl
 
 -- one law for what goes by the turn
 module _ {ℓ} {A : Type ℓ} (f : Turn → A) (by : ℕ → ℕ → ℕ → A) (u : (h n r : ℕ) → f UrgentTurn ≡ by (suc h) n r) (l : (n r : ℕ) → f LongTurn ≡ by 0 (suc n) r)
     (s : (r : ℕ) → f ResolveTurn ≡ by 0 0 (suc r)) (o : f OpenTurn ≡ by 0 0 0) where
-  by-turn : (h n r : ℕ) → f (turnOf (places h n r)) ≡ by h n r
+  by-turn : (h n r : ℕ) → f (turnOf none (places h n r)) ≡ by h n r
   by-turn (suc h) n r = ap f (turn-urgent h n r) ∙ u h n r
   by-turn zero (suc n) r = ap f (turn-long n r) ∙ l n r
   by-turn zero zero (suc r) = ap f (turn-resolve r) ∙ s r
@@ -113,9 +115,10 @@ asks-is (suc r) g pick (Long f l t) w = refl
 
 -- ---- step 4
 
-pub sends-is : (g h n r : ℕ) (c : Condition) → Placed c → sends (turnOf (places h n r)) r g c ≡ sendsBy h n r c
-unfolding sends requests
-sends-is g h n r c w = go h n r c w
+pub sends-is : (o : Option ℕ) (g h n r : ℕ) (c : Condition) → Placed c → sends (turnOf o (places h n r)) r g c ≡ sendsIn o h n r c
+unfolding sends requests turnOf
+sends-is (some x) g h n r c w = refl
+sends-is none g h n r c w = go h n r c w
   where
     open-is : (c : Condition) → sends OpenTurn 0 g c ≡ sendsBy 0 0 0 c
     open-is Free = refl
@@ -139,7 +142,7 @@ sends-is g h n r c w = go h n r c w
     long-is n r (Asked x j t) w = refl
     long-is n r (Resolving x i t) w = refl
     long-is n r (Urgent i) w = refl
-    long-is n r (Long f l t) (lo, some, most) = ap (λ (x : ℕ). cond (eqb f 1) x 0) (let e : t - (l - 1) ≡ suc (t - l) = omega arith in e)
+    long-is n r (Long f l t) (lo, least, most) = ap (λ (x : ℕ). cond (eqb f 1) x 0) (let e : t - (l - 1) ≡ suc (t - l) = omega arith in e)
 
     urgent-is : (h n r : ℕ) (c : Condition) → sends UrgentTurn r g c ≡ sendsBy (suc h) n r c
     urgent-is h n r Free = refl
@@ -149,11 +152,11 @@ sends-is g h n r c w = go h n r c w
     urgent-is h n r (Urgent i) = refl
     urgent-is h n r (Long f l t) = refl
 
-    go : (h n r : ℕ) (c : Condition) → Placed c → sends (turnOf (places h n r)) r g c ≡ sendsBy h n r c
+    go : (h n r : ℕ) (c : Condition) → Placed c → sends (turnOf none (places h n r)) r g c ≡ sendsBy h n r c
     go (suc h) n r c w = rw (turn-urgent h n r) (urgent-is h n r c)
     go zero (suc n) r c w = rw (turn-long n r) (long-is n r c w)
     go zero zero (suc r) c w = rw (turn-resolve r) (resolve-is r c)
-    go zero zero zero c w = rw turn-open (open-is c)
+    go zero zero zero c w = open-is c
 
 -- ---- steps 4 and 5
 
@@ -169,18 +172,11 @@ shorter-is (suc zero) (suc zero) t w v = refl
 shorter-is (suc zero) (suc (suc l)) t w v = rw (past-one l) (ap (λ (x : ℕ). Long 1 x t) (omega arith))
 shorter-is (suc (suc f)) l t w v = rw (past-one f) (ap (λ (x : ℕ). Long x l t) (omega arith))
 
-still-is : (c : Condition) → c ≡ falls 0 0 c
-still-is Free = refl
-still-is (Fresh t) = refl
-still-is (Asked x j t) = refl
-still-is (Resolving x i t) = refl
-still-is (Urgent i) = refl
-still-is (Long f l t) = refl
-
-pub falls-is : (h n r : ℕ) (c : Condition) → Placed c → moved (turnOf (places h n r)) c ≡ falls h n c
-unfolding moved
-falls-is h n r c w =
-    by-turn (λ x. moved x c) (λ h n r. falls h n c) (λ h n r. urgent-is h n c w) (λ n r. long-is n c w) (λ r. still-is c) (still-is c) h n r
+pub falls-is : (o : Option ℕ) (h n r : ℕ) (c : Condition) → Placed c → moved (turnOf o (places h n r)) c ≡ falls (heeded o h) (heeded o n) c
+unfolding moved turnOf
+falls-is (some x) h n r c w = sym (falls-still c)
+falls-is none h n r c w =
+    by-turn (λ x. moved x c) (λ h n r. falls h n c) (λ h n r. urgent-is h n c w) (λ n r. long-is n c w) (λ r. sym (falls-still c)) (sym (falls-still c)) h n r
   where
     urgent-is : (h n : ℕ) (c : Condition) → Placed c → moved UrgentTurn c ≡ falls (suc h) n c
     urgent-is h n Free w = refl
@@ -203,14 +199,18 @@ pub less-is : (n : ℕ) → n - 1 ≡ less n
 less-is zero = refl
 less-is (suc n) = omega arith
 
-pub urgent-falls-is : (h n r : ℕ) → urgentFalls (turnOf (places h n r)) h ≡ less h
-urgent-falls-is (suc h) n r = rw (turn-urgent h n r) (less-is (suc h))
-urgent-falls-is zero (suc n) r = rw (turn-long n r)
-urgent-falls-is zero zero (suc r) = rw (turn-resolve r)
-urgent-falls-is zero zero zero = rw turn-open
+pub urgent-falls-is : (o : Option ℕ) (h n r : ℕ) → urgentFalls (turnOf o (places h n r)) h ≡ hLeft o h
+unfolding turnOf
+urgent-falls-is (some x) h n r = refl
+urgent-falls-is none (suc h) n r = rw (turn-urgent h n r) (less-is (suc h))
+urgent-falls-is none zero (suc n) r = rw (turn-long n r)
+urgent-falls-is none zero zero (suc r) = rw (turn-resolve r)
+urgent-falls-is none zero zero zero = refl
 
-pub long-falls-is : (h n r : ℕ) → longFalls (turnOf (places h n r)) n ≡ nLeft h n
-long-falls-is (suc h) n r = rw (turn-urgent h n r)
-long-falls-is zero (suc n) r = rw (turn-long n r) (less-is (suc n))
-long-falls-is zero zero (suc r) = rw (turn-resolve r)
-long-falls-is zero zero zero = rw turn-open
+pub long-falls-is : (o : Option ℕ) (h n r : ℕ) → longFalls (turnOf o (places h n r)) n ≡ nLeft o h n
+unfolding turnOf
+long-falls-is (some x) h n r = refl
+long-falls-is none (suc h) n r = rw (turn-urgent h n r)
+long-falls-is none zero (suc n) r = rw (turn-long n r) (less-is (suc n))
+long-falls-is none zero zero (suc r) = rw (turn-resolve r)
+long-falls-is none zero zero zero = refl

@@ -2,6 +2,7 @@
 -- proofs/ClauseLaws proves them equal. Assumes nothing.
 use mathlib.Core.Bool.{Bool, true, false, cond}
 use mathlib.Core.List.{List, [], _∷_, map}
+use mathlib.Core.Option.{Option, none, some}
 use Prim.Native.Nat.{ℕ, zero, suc, _-_}
 use lib.Dec.{eqb}
 use Rattle.minislot.specs.declared.Feedback.{Feedback}
@@ -70,7 +71,11 @@ asks (suc r) g j (Resolving h i t) = front (eqb h g) g j h i t
 asks (suc r) g j (Urgent i) = Urgent i
 asks (suc r) g j (Long f l t) = Long f l t
 
--- step 4 and the rest of step 5, by H and N after step 1
+-- step 4 and the rest of step 5, by H and N after step 1 as the slot's data heeds them: an owned slot serves neither queue
+abbrev pub heeded : Option ℕ → ℕ → ℕ
+heeded none h = h
+heeded (some x) h = 0
+
 abbrev pub lower : ℕ → Condition
 lower zero = Urgent zero
 lower (suc zero) = Free
@@ -114,14 +119,29 @@ serves (suc h) n = 1
 serves zero (suc n) = 1
 serves zero zero = 0
 
--- step 5: a counter that falls if it is not 0; N after the slot
+-- step 5: a counter that falls if it is not 0; H and N after the slot
 abbrev pub less : ℕ → ℕ
 less zero = zero
 less (suc n) = n
 
-abbrev pub nLeft : ℕ → ℕ → ℕ
-nLeft zero n = less n
-nLeft (suc h) n = n
+abbrev pub hLeft : Option ℕ → ℕ → ℕ
+hLeft none h = less h
+hLeft (some x) h = h
+
+abbrev pub nLeft : Option ℕ → ℕ → ℕ → ℕ
+nLeft none zero n = less n
+nLeft none (suc h) n = n
+nLeft (some x) h n = n
+
+-- the segment that a station sends, none of its message in an owned slot
+abbrev pub sendsIn : Option ℕ → ℕ → ℕ → ℕ → Condition → ℕ
+sendsIn none h n r c = sendsBy h n r c
+sendsIn (some x) h n r c = 0
+
+-- what an owned slot answers of its owner, or else what the senders make it
+abbrev pub ownedOr : Option ℕ → (ℕ → ℕ) → ℕ → ℕ
+ownedOr (some x) f d = f x
+ownedOr none f d = d
 
 -- step 3: station k's request in minislot j of group g, with RQ r after step 1, its pick, and its condition after step 1
 abbrev pub requestSender : ℕ → ℕ → ℕ → ℕ → ℕ → Condition → List Sender

@@ -1,14 +1,16 @@
--- Who sends data in a slot: the plain channel's list and the stations' have the same entries of every station. Assumes nothing.
+-- Who sends a segment in a slot, nobody if it is owned: the plain channel's list and the stations' have the same entries of every station.
+-- Assumes nothing.
 use mathlib.Core.Path.{_≡_, refl, sym, ap, _∙_}
 use mathlib.Core.Bool.{Bool, true, false, cond}
 use mathlib.Core.List.{List, [], _∷_, map}
+use mathlib.Core.Option.{Option, none, some}
 use Prim.Native.Nat.{ℕ, zero, suc, _-_, _≤_}
 use native.Mathlib.Omega.{arith}
 use lib.ListN.{length}
 use Rattle.listlaws.proofs.Totals.{total-cong}
 use Rattle.rules.proofs.Census.{hearing-eq, gather-of, length-total, length-gather}
 use Rattle.rules.proofs.AskedRows.{onlyIf-nil, keepIf-onlyIf}
-use Rattle.rules.proofs.Clauses.{hearing, sendsBy}
+use Rattle.rules.proofs.Clauses.{hearing, sendsBy, sendsIn}
 use Rattle.rules.proofs.Relation.{Fits, freshOf, urgentOf, longOf}
 use Rattle.rules.proofs.Shared.{gather, senderIf}
 use Rattle.rules.proofs.Views.{Sender, senderAt, dataFrom, seen}
@@ -92,13 +94,14 @@ module _ (S : Start) (k : ℕ) (m : Message) where
   open-send (Urgent i) w = refl
   open-send (Long f l t) w = refl
 
-  pub send-ok : (u : List Message) (l : List Segment) (r : List (List Message)) (f : List Message) (c : Condition) → Fits S m c
+  pub send-ok : (o : Option ℕ) (u : List Message) (l : List Segment) (r : List (List Message)) (f : List Message) (c : Condition) → Fits S m c
       → seen (one k) u zero ≡ urgentOf m c zero → seen (part k) l zero ≡ longOf m c zero → of k f ≡ freshOf m c
-      → keyed k (map dataFrom (sent u l r f)) ≡ senderIf k (sendsBy (length u) (length l) (length r) c)
-  send-ok (x ∷ u) l r f c w a b e = one-data k x ∙ ap (map (λ (y : Message). senderAt k 1)) a ∙ urgent-send (length u) (length l) (length r) c
-  send-ok [] (y ∷ l) r f c w a b e = part-data k y ∙ ap (map (λ (y : Segment). senderAt k (y .number))) b ∙ long-send (length l) (length r) c w
-  send-ok [] [] (x ∷ r) f c w a b e = rest-send (length r) c
-  send-ok [] [] [] f c w a b e = oneSlot-data k f ∙ ap (λ (z : List Message). map (λ (y : Message). senderAt k 1) (oneSlot z)) e ∙ open-send c w
+      → keyed k (map dataFrom (sent o u l r f)) ≡ senderIf k (sendsIn o (length u) (length l) (length r) c)
+  send-ok (some x) u l r f c w a b e = refl
+  send-ok none (x ∷ u) l r f c w a b e = one-data k x ∙ ap (map (λ (y : Message). senderAt k 1)) a ∙ urgent-send (length u) (length l) (length r) c
+  send-ok none [] (y ∷ l) r f c w a b e = part-data k y ∙ ap (map (λ (y : Segment). senderAt k (y .number))) b ∙ long-send (length l) (length r) c w
+  send-ok none [] [] (x ∷ r) f c w a b e = rest-send (length r) c
+  send-ok none [] [] [] f c w a b e = oneSlot-data k f ∙ ap (λ (z : List Message). map (λ (y : Message). senderAt k 1) (oneSlot z)) e ∙ open-send c w
 
 sender-own : (j s k : ℕ) → keyed k (senderIf j s) ≡ onlyIf (eqb j k) (senderIf j s)
 sender-own j zero k = sym (onlyIf-nil (eqb j k))

@@ -7,9 +7,11 @@ use lib.Dec.{leb, ltb, eqb}
 use lib.ListN.{length}
 use borrow.Author.Tests.{leb-true, ltb-false, eqb-true}
 use Rattle.listlaws.specs.Every.{everyFrom}
+use Rattle.listlaws.specs.Lists.{each}
 use Rattle.rules.specs.declared.Counters.{Counters}
 use Rattle.rules.specs.declared.Places.{Places}
 use Rattle.rules.specs.declared.Station.{Station}
+use Rattle.rules.specs.Calendars.{entriesWithin, someFree, calendarWithin, entryWithin}
 use Rattle.rules.specs.Limits.{withinLimits, groupsWithin, between, resolutionWithin, openedWithin}
 use Rattle.rules.specs.Queueing.{passes}
 use Rattle.rules.specs.StationLimits.{conditionWithin, stationWithin}
@@ -19,7 +21,7 @@ between-bounds low x high e =
     let p = and-eq-true-iff (leb low x) (leb x high) .0 e in
     (leb-true low x (p .0), leb-true x high (p .1))
 
--- a record within its limits: minislots, groups, next group, H, N, and the two arrays' test
+-- a record within its limits: minislots, groups, next group, H, N, the two arrays' test and the calendar's
 pub record Within (c : Counters) : Type 0 where
   pub minislots : (2 ≤ c .minislots) × (c .minislots ≤ 8)
   pub groups : (1 ≤ c .groups) × (c .groups ≤ 8)
@@ -27,6 +29,7 @@ pub record Within (c : Counters) : Type 0 where
   pub urgent : c .urgent ≤ 4095
   pub long : c .long ≤ 65535
   pub arrays : groupsWithin c ≡ true
+  pub calendar : calendarWithin c ≡ true
 
 pub within-limits : (c : Counters) → withinLimits c ≡ true → Within c
 unfolding withinLimits
@@ -36,7 +39,8 @@ within-limits c e =
     let g = between 1 (c .next) (c .groups) in
     let u = leb (c .urgent) 4095 in
     let l = leb (c .long) 65535 in
-    let p₅ = and-eq-true-iff (m && n) (g && u && l && groupsWithin c) .0 e in
+    let p₆ = and-eq-true-iff (m && n && (g && u && l && groupsWithin c)) (calendarWithin c) .0 e in
+    let p₅ = and-eq-true-iff (m && n) (g && u && l && groupsWithin c) .0 (p₆ .0) in
     let p₁ = and-eq-true-iff m n .0 (p₅ .0) in
     let p₄ = and-eq-true-iff (g && u && l) (groupsWithin c) .0 (p₅ .1) in
     let p₃ = and-eq-true-iff (g && u) l .0 (p₄ .0) in
@@ -48,7 +52,23 @@ within-limits c e =
       urgent = leb-true (c .urgent) 4095 (p₂ .1);
       long = leb-true (c .long) 65535 (p₃ .1);
       arrays = p₄ .1;
+      calendar = p₆ .1;
     }
+
+-- a calendar and a position within their limits
+pub record CalendarIn (c : Counters) : Type 0 where
+  pub position : c .position ≤ 23
+  pub size : length (c .calendar) ≡ 24
+  pub entries : each entryWithin (c .calendar) ≡ true
+  pub free : someFree (c .calendar) ≡ true
+
+pub calendar-in : (c : Counters) → calendarWithin c ≡ true → CalendarIn c
+unfolding calendarWithin entriesWithin
+calendar-in c e =
+    let p = and-eq-true-iff (leb (c .position) 23 && entriesWithin (c .calendar)) (someFree (c .calendar)) .0 e in
+    let q = and-eq-true-iff (leb (c .position) 23) (entriesWithin (c .calendar)) .0 (p .0) in
+    let r = and-eq-true-iff (eqb (length (c .calendar)) 24) (each entryWithin (c .calendar)) .0 (q .1) in
+    record { position = leb-true (c .position) 23 (q .0); size = eqb-true (length (c .calendar)) 24 (r .0); entries = r .1; free = p .1 }
 
 -- the two arrays have a place for each of eight groups
 pub arrays-lengths : (c : Counters) → groupsWithin c ≡ true → (length (c .resolution) ≡ 8) × (length (c .opened) ≡ 8)

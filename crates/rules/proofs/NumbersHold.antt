@@ -16,9 +16,12 @@ use Rattle.rules.specs.Listening.{refusedListening, listened, listenNumb
 use Rattle.rules.specs.Outcome.{outcomeBy}
 use Rattle.rules.specs.Stepping.{stepOf}
 use Rattle.rules.specs.StationCalls.{refusedStart, stationStartNumberOf, stationStartOf, refusedOffer, offerNumberOf, offerOf, refusedSlot, slotNumberOf, slotOf}
+use Rattle.rules.specs.declared.CalendarSet.{CalendarSet}
+use Rattle.rules.specs.declared.StationSet.{StationSet}
+use Rattle.rules.specs.Settings.{refusedCalendar, calendarNumberOf, calendarOf, refusedSetting, stationCalendarNumberOf, stationCalendarOf}
 use Rattle.rules.specs.Recorded.{stretch, listeningAtOf, slotAtOf}
-use Rattle.rules.specs.Numbers.{Told, startTold, listenTold, offerTold, slotTold}
-use Rattle.rules.specs.Answered.{startToldOf, listenToldOf, stationStartToldOf, offerToldOf, slotToldOf, listenAtToldOf, slotAtToldOf}
+use Rattle.rules.specs.Numbers.{Told, startTold, listenTold, offerTold, slotTold, calendarTold}
+use Rattle.rules.specs.Answered.{startToldOf, listenToldOf, stationStartToldOf, offerToldOf, slotToldOf, listenAtToldOf, slotAtToldOf, calendarToldOf, stationCalendarToldOf}
 use Rattle.rules.proofs.Refusals.{by-ap}
 
 -- ---- STARTING
@@ -54,3 +57,13 @@ slot-told s words counts pick = by-ap (λ (r : StationSlot). slotTold (r .answer
 pub slot-at-told : (s : Station) (start : ℕ) (words counts : List ℕ) (pick : ℕ) → slotTold (slotAtOf s start words counts pick .answer) ≡ slotAtToldOf s start words counts pick
 unfolding slotAtOf slotAtToldOf
 slot-at-told s start words counts pick = slot-told s (stretch (s .counters .minislots) start words) (stretch (s .counters .minislots) start counts) pick
+
+-- ---- SETTING A CALENDAR
+
+pub calendar-told : (c : Counters) (entries : List ℕ) → calendarTold (calendarOf c entries .answer) ≡ calendarToldOf c entries
+unfolding calendarOf calendarToldOf
+calendar-told c entries = by-ap (λ (r : CalendarSet). calendarTold (r .answer)) (calendarNumberOf c entries) (refusedCalendar c) _
+
+pub station-calendar-told : (s : Station) (entries : List ℕ) → calendarTold (stationCalendarOf s entries .answer) ≡ stationCalendarToldOf s entries
+unfolding stationCalendarOf stationCalendarToldOf
+station-calendar-told s entries = by-ap (λ (r : StationSet). calendarTold (r .answer)) (stationCalendarNumberOf s entries) (refusedSetting s) _

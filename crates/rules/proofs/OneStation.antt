@@ -10,12 +10,12 @@ use Rattle.rules.proofs.AskViews.{Asks, asks-ok}
 use Rattle.rules.proofs.FallViews.{Left, Falls, falls-ok}
 use Rattle.rules.proofs.ServeViews.{asks-view, falls-view, asks-fits, falls-fits, serve-told}
 use Rattle.minislot.specs.declared.Feedback.{Feedback}
-use Rattle.rules.proofs.Clauses.{read, settle, asks, falls}
+use Rattle.rules.proofs.Clauses.{read, settle, asks, falls, heeded}
 use Rattle.rules.proofs.Relation.{lengths, Shows, Agrees, Fits, remaining, whole, freshOf, askedOf, resolvingOf, urgentOf, longOf}
 use Rattle.rules.proofs.Views.{seen}
 use Rattle.rules.specs.Calls.{Start, index}
 use Rattle.rules.specs.Messages.{Message, Segment, of, deliveredOf}
-use Rattle.rules.specs.Plain.{Queues, Plain, queuesOf, plainSuccess, plainSettled, renewed, plainWent, served}
+use Rattle.rules.specs.Plain.{Queues, Plain, queuesOf, plainSuccess, plainSettled, plainOwner, renewed, plainWent, served}
 use Rattle.rules.specs.StationLimits.{Condition, Free, Fresh, Asked, Resolving, Urgent, Long}
 use Rattle.rules.specs.declared.Places.{Places}
 use borrow.Author.Tests.{eqb-true, ne-eqb, eqb-false}
@@ -29,12 +29,14 @@ fits-left S m (Resolving g i t) f = tt
 fits-left S m (Urgent i) f = tt
 fits-left S m (Long x l t) f = f .3
 
--- the station's condition after step 1 and after the slot, from the row and the counters of the plain channel
+-- the station's condition after step 1 and after the slot, from the row, the counters and the slot's owner in the plain channel
 abbrev pub first : Start → Plain → Condition → Condition
 first S p c = settle (plainSuccess (p .group (p .next))) (p .next) (map (read (index S)) (p .group (p .next) .asking)) (lengths (queuesOf p (p .group (p .next)))) c
 
 abbrev pub later : (ℕ → ℕ) → Plain → ℕ → Queues → Condition → Condition
-later pick p k q c = falls (length (q .urgent)) (length (q .long)) (asks (length (q .resolution)) (p .next) (pick k) c)
+later pick p k q c =
+    falls (heeded (plainOwner p) (length (q .urgent))) (heeded (plainOwner p) (length (q .long)))
+    (asks (length (q .resolution)) (p .next) (pick k) c)
 
 module _ (S : Start) (pick : ℕ → ℕ) (p : Plain) (k : ℕ) (m : Message) (gl : 1 ≤ p .next) (gh : p .next ≤ S .n) (jl : 1 ≤ pick k) (jh : pick k ≤ S .m) where
   pub first-ok : (c : Condition) → Agrees S p k m c → Shows S (p .next) k m (whole (of k (p .taken))) (plainSettled p) (first S p c)
@@ -52,23 +54,30 @@ module _ (S : Start) (pick : ℕ → ℕ) (p : Plain) (k : ℕ) (m : Message) (g
           mine = a .mine;
           some = a .some;
           few = a .few;
-          fresh = A.fresh ∙ sym (falls-view (freshOf m) (λ i. refl) (λ x l t. refl) (length (q .urgent)) (length (q .long)) c₂);
+          fresh = A.fresh ∙ sym (falls-view (freshOf m) (λ i. refl) (λ x l t. refl) h₂ n₂ c₂);
           urgent = F.urgent;
           long = F.long;
           asking = λ g i. at-asked g i (eqb g (p .next)) refl;
           resolution = λ g i. at-res g i (eqb g (p .next)) refl;
           owed =
-              ap (λ (z : List Segment). z ++ remaining m (later pick p k q c₁)) (ofBy-append (λ (z : Segment). z .message .station) k (q .history) (served (q .urgent) (q .long)))
-              ∙ append-assoc (deliveredOf k (q .history)) (deliveredOf k (served (q .urgent) (q .long))) (remaining m (later pick p k q c₁))
+              ap (λ (z : List Segment). z ++ remaining m (later pick p k q c₁)) (ofBy-append (λ (z : Segment). z .message .station) k (q .history) (served (plainOwner p) (q .urgent) (q .long)))
+              ∙ append-assoc (deliveredOf k (q .history)) (deliveredOf k (served (plainOwner p) (q .urgent) (q .long))) (remaining m (later pick p k q c₁))
               ∙ ap (λ (z : List Segment). deliveredOf k (q .history) ++ z)
-              (serve-told k m S (q .urgent) (q .long) c₂ fit (s .urgent zero ∙ sym (u₂ zero)) (s .long zero ∙ sym (l₂ zero))
+              (serve-told k m S (plainOwner p) (q .urgent) (q .long) c₂ fit (s .urgent zero ∙ sym (u₂ zero)) (s .long zero ∙ sym (l₂ zero))
               ∙ asks-view (p .next) (pick k) (remaining m) (λ t. refl) (λ h t e. refl) (λ h x t e. refl) (length (q .resolution)) c₁)
               ∙ s .owed;
-          fits = falls-fits S m (length (q .urgent)) (length (q .long)) c₂ fit;
+          fits = falls-fits S m h₂ n₂ c₂ fit;
         }
       where
         A : Asks (S .m) pick (p .next) k m (q .resolution) (p .fresh) (asks (length (q .resolution)) (p .next) (pick k) c₁)
         A = asks-ok (S .m) pick (p .next) k m jl jh (q .resolution) (p .fresh) c₁ f s.resolution n
+
+        -- H and N as this slot's data heeds them
+        h₂ : ℕ
+        h₂ = heeded (plainOwner p) (length (q .urgent))
+
+        n₂ : ℕ
+        n₂ = heeded (plainOwner p) (length (q .long))
 
         c₂ : Condition
         c₂ = asks (length (q .resolution)) (p .next) (pick k) c₁
@@ -85,27 +94,27 @@ module _ (S : Start) (pick : ℕ → ℕ) (p : Plain) (k : ℕ) (m : Message) (g
         l₂ : (i : ℕ) → longOf m (asks (length (q .resolution)) (p .next) (pick k) c₁) i ≡ longOf m c₁ i
         l₂ i = asks-view (p .next) (pick k) (λ (c : Condition). longOf m c i) (λ t. refl) (λ h t e. refl) (λ h x t e. refl) (length (q .resolution)) c₁
 
-        F : Falls k m (q .urgent) (q .long) (later pick p k q c₁)
+        F : Falls k m (plainOwner p) (q .urgent) (q .long) (later pick p k q c₁)
         F =
-            falls-ok k m (q .urgent) (q .long) (asks (length (q .resolution)) (p .next) (pick k) c₁) (fits-left S m (asks (length (q .resolution)) (p .next) (pick k) c₁) fit)
+            falls-ok k m (plainOwner p) (q .urgent) (q .long) (asks (length (q .resolution)) (p .next) (pick k) c₁) (fits-left S m (asks (length (q .resolution)) (p .next) (pick k) c₁) fit)
             (λ i. s .urgent i ∙ sym (u₂ i))
             (λ i. s .long i ∙ sym (l₂ i))
 
         at-asked : (g i : ℕ) (b : Bool) → eqb g (p .next) ≡ b → seen (of k) ((cond b (renewed S pick p q) (p .group g)) .asking) i ≡ askedOf g m (later pick p k q c₁) i
         at-asked g i true e =
-            rw (eqb-true g (p .next) e) (A .asking i ∙ sym (falls-view (λ (c : Condition). askedOf (p .next) m c i) (λ x. refl) (λ x l t. refl) (length (q .urgent)) (length (q .long)) c₂))
+            rw (eqb-true g (p .next) e) (A .asking i ∙ sym (falls-view (λ (c : Condition). askedOf (p .next) m c i) (λ x. refl) (λ x l t. refl) h₂ n₂ c₂))
         at-asked g i false e =
             a .asking g i ∙ sym (fa g e i)
             ∙ sym (asks-view (p .next) (pick k) (λ (c : Condition). askedOf g m c i) (λ t. rw (far g e)) (λ h t w. rw (far g e)) (λ h x t w. refl) (length (q .resolution)) c₁)
-            ∙ sym (falls-view (λ (c : Condition). askedOf g m c i) (λ x. refl) (λ x l t. refl) (length (q .urgent)) (length (q .long)) c₂)
+            ∙ sym (falls-view (λ (c : Condition). askedOf g m c i) (λ x. refl) (λ x l t. refl) h₂ n₂ c₂)
 
         at-res : (g i : ℕ) (b : Bool) → eqb g (p .next) ≡ b → seen (of k) ((cond b (renewed S pick p q) (p .group g)) .resolution) i ≡ resolvingOf g m (later pick p k q c₁) i
         at-res g i true e =
-            rw (eqb-true g (p .next) e) (A .resolution i ∙ sym (falls-view (λ (c : Condition). resolvingOf (p .next) m c i) (λ x. refl) (λ x l t. refl) (length (q .urgent)) (length (q .long)) c₂))
+            rw (eqb-true g (p .next) e) (A .resolution i ∙ sym (falls-view (λ (c : Condition). resolvingOf (p .next) m c i) (λ x. refl) (λ x l t. refl) h₂ n₂ c₂))
         at-res g i false e =
             a .resolution g i ∙ sym (fr g e i)
             ∙ sym (asks-view (p .next) (pick k) (λ (c : Condition). resolvingOf g m c i) (λ t. refl) (λ h t w. rw (eqb-true h (p .next) w, far g e)) (λ h x t w. rw (eqb-true h (p .next) w, far g e)) (length (q .resolution)) c₁)
-            ∙ sym (falls-view (λ (c : Condition). resolvingOf g m c i) (λ x. refl) (λ x l t. refl) (length (q .urgent)) (length (q .long)) c₂)
+            ∙ sym (falls-view (λ (c : Condition). resolvingOf g m c i) (λ x. refl) (λ x l t. refl) h₂ n₂ c₂)
 
     -- one slot, this station
     pub station-ok : Agrees S (plainWent S pick p (plainSettled p)) k m (later pick p k (plainSettled p) (first S p c))

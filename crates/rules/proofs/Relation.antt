@@ -2,7 +2,7 @@
 use mathlib.Core.Path.{_≡_}
 use mathlib.Core.Bool.{true}
 use mathlib.Core.List.{List, [], _∷_, _++_}
-use Prim.Native.Nat.{ℕ, suc, _+_, _-_, _≤_, _<_}
+use Prim.Native.Nat.{ℕ, suc, _+_, _-_, _%_, _≤_, _<_}
 use lib.ListN.{length}
 use Rattle.rules.proofs.Shared.{Table, TableResult}
 use Rattle.rules.proofs.Views.{seen, atFirst, atPlace, run}
@@ -10,7 +10,7 @@ use Rattle.rules.specs.declared.Places.{Places}
 use Rattle.rules.specs.Calls.{Start}
 use Rattle.listlaws.specs.Lists.{onlyIf}
 use Rattle.rules.specs.Messages.{Message, Segment, of, segmentsFrom, deliveredOf}
-use Rattle.rules.specs.Plain.{Queues, Plain, PlainResult}
+use Rattle.rules.specs.Plain.{Queues, Plain, PlainResult, among, onChannel}
 use Rattle.rules.specs.Positions.{one, part}
 use Rattle.rules.specs.StationLimits.{Condition, Free, Fresh, Asked, Resolving, Urgent, Long}
 use lib.Dec.{eqb}
@@ -120,6 +120,11 @@ pub record Same (S : Start) (p : Plain) (t : Table) : Type 0 where
   pub rq : (g : ℕ) → t .rq g ≡ length (p .group g .resolution)
   pub opened : (g : ℕ) → t .opened g ≡ p .group g .opened
   pub next : t .next ≡ p .next
+  pub calendar : t .calendar ≡ p .calendar
+  pub position : t .position ≡ p .slots % 24
+  pub size : length (p .calendar) ≡ 24
+  pub owners : onChannel (S .indexes) (p .calendar) ≡ true
+  pub free : among (p .calendar) 65535 ≡ true
   pub low : 1 ≤ p .next
   pub high : p .next ≤ S .n
   pub rows : (g : ℕ) → length (p .group g .asking) ≡ S .m

@@ -2,10 +2,12 @@
 use mathlib.Core.Path.{_≡_, refl, sym, ap, _∙_}
 use mathlib.Core.Bool.{Bool, true, false}
 use mathlib.Core.List.{List, [], _∷_, _++_}
+use mathlib.Core.Option.{Option, none, some}
 use Prim.Native.Nat.{ℕ, zero, suc, _+_, _-_, _≤_}
 use native.Mathlib.Omega.{arith}
 use lib.ListN.{length}
-use Rattle.rules.proofs.Clauses.{asks, front, falls, lower, shorter}
+use Rattle.rules.proofs.Clauses.{asks, front, falls, lower, shorter, heeded}
+use Rattle.rules.proofs.FallViews.{falls-still}
 use Rattle.rules.proofs.Relation.{Fits, remaining, urgentOf, longOf}
 use Rattle.rules.proofs.Views.{seen}
 use Rattle.rules.specs.Calls.{Start}
@@ -109,7 +111,7 @@ falls-fits S m zero (suc k) (Long x l t) f = go x l f
     go (suc (suc x)) l f = omega arith
 falls-fits S m (suc h) k (Long x l t) f = f
 
--- what the queues deliver of a station is what its condition then lacks
+-- what the queues deliver of a station is what its condition then lacks; in an owned slot they deliver nothing
 module _ (k : ℕ) (m : Message) where
   not-first : (x : Message) → one k x ≡ [] → deliveredOf k (segment x 1 ∷ []) ≡ []
   not-first x e = go (eqb (x .station) k) e
@@ -132,31 +134,32 @@ module _ (k : ℕ) (m : Message) where
       go true e = e
       go false e = e
 
-  none-long : (l : List Segment) → seen (part k) l zero ≡ [] → deliveredOf k (served [] l) ≡ []
+  none-long : (l : List Segment) → seen (part k) l zero ≡ [] → deliveredOf k (served none [] l) ≡ []
   none-long [] b = refl
   none-long (y ∷ l) b = first-part y [] b
 
-  none-served : (u : List Message) (l : List Segment) → seen (one k) u zero ≡ [] → seen (part k) l zero ≡ [] → deliveredOf k (served u l) ≡ []
+  none-served : (u : List Message) (l : List Segment) → seen (one k) u zero ≡ [] → seen (part k) l zero ≡ [] → deliveredOf k (served none u l) ≡ []
   none-served [] l a b = none-long l b
   none-served (x ∷ u) l a b = not-first x a
 
   module _ (S : Start) where
-    pub serve-told : (u : List Message) (l : List Segment) (c : Condition) → Fits S m c → seen (one k) u zero ≡ urgentOf m c zero → seen (part k) l zero ≡ longOf m c zero
-        → deliveredOf k (served u l) ++ remaining m (falls (length u) (length l) c) ≡ remaining m c
-    serve-told u l Free f a b = rw (none-served u l a b)
-    serve-told u l (Fresh t) f a b = rw (none-served u l a b)
-    serve-told u l (Asked g j t) f a b = rw (none-served u l a b)
-    serve-told u l (Resolving g i t) f a b = rw (none-served u l a b)
-    serve-told [] l (Urgent i) f a b = rw (none-long l b)
-    serve-told (x ∷ u) l (Urgent zero) f a b = rw (not-first x a)
-    serve-told (x ∷ u) l (Urgent (suc zero)) f a b = rw (is-first x a) (ap (λ (n : ℕ). segmentsFrom m n 1) (sym (f .0)))
-    serve-told (x ∷ u) l (Urgent (suc (suc i))) f a b = rw (not-first x a)
-    serve-told [] [] (Long x n t) f a b = refl
-    serve-told [] (y ∷ l) (Long zero n t) f a b = rw (first-part y [] b)
-    serve-told [] (y ∷ l) (Long (suc zero) zero t) f a b = rw (first-part y [] b)
-    serve-told [] (y ∷ l) (Long (suc zero) (suc zero) t) f a b = rw (first-part y _ b)
-    serve-told [] (y ∷ l) (Long (suc zero) (suc (suc n)) t) f a b =
+    pub serve-told : (o : Option ℕ) (u : List Message) (l : List Segment) (c : Condition) → Fits S m c → seen (one k) u zero ≡ urgentOf m c zero → seen (part k) l zero ≡ longOf m c zero
+        → deliveredOf k (served o u l) ++ remaining m (falls (heeded o (length u)) (heeded o (length l)) c) ≡ remaining m c
+    serve-told (some x) u l c f a b = ap (remaining m) (falls-still c)
+    serve-told none u l Free f a b = rw (none-served u l a b)
+    serve-told none u l (Fresh t) f a b = rw (none-served u l a b)
+    serve-told none u l (Asked g j t) f a b = rw (none-served u l a b)
+    serve-told none u l (Resolving g i t) f a b = rw (none-served u l a b)
+    serve-told none [] l (Urgent i) f a b = rw (none-long l b)
+    serve-told none (x ∷ u) l (Urgent zero) f a b = rw (not-first x a)
+    serve-told none (x ∷ u) l (Urgent (suc zero)) f a b = rw (is-first x a) (ap (λ (n : ℕ). segmentsFrom m n 1) (sym (f .0)))
+    serve-told none (x ∷ u) l (Urgent (suc (suc i))) f a b = rw (not-first x a)
+    serve-told none [] [] (Long x n t) f a b = refl
+    serve-told none [] (y ∷ l) (Long zero n t) f a b = rw (first-part y [] b)
+    serve-told none [] (y ∷ l) (Long (suc zero) zero t) f a b = rw (first-part y [] b)
+    serve-told none [] (y ∷ l) (Long (suc zero) (suc zero) t) f a b = rw (first-part y _ b)
+    serve-told none [] (y ∷ l) (Long (suc zero) (suc (suc n)) t) f a b =
         let e : suc (t - suc n) ≡ suc (suc (t - suc (suc n))) = omega arith in
         rw (first-part y _ b) (ap (λ (s : ℕ). segment m (suc (t - suc (suc n))) ∷ segmentsFrom m (suc n) s) e)
-    serve-told [] (y ∷ l) (Long (suc (suc x)) n t) f a b = rw (first-part y [] b)
-    serve-told (y ∷ u) l (Long x n t) f a b = rw (not-first y a)
+    serve-told none [] (y ∷ l) (Long (suc (suc x)) n t) f a b = rw (first-part y [] b)
+    serve-told none (y ∷ u) l (Long x n t) f a b = rw (not-first y a)

@@ -17,6 +17,7 @@ use Rattle.rules.specs.declared.Landed.{Landed}
 use Rattle.rules.specs.declared.Station.{Station}
 use Rattle.rules.specs.declared.StationSlot.{StationSlot}
 use Rattle.rules.specs.declared.SlotAnswer.the-variants.{Went}
+use Rattle.rules.specs.Calendars.{ownerOf}
 use Rattle.rules.specs.Turns.{turnOf}
 use Rattle.rules.specs.Falling.{fallen}
 use Rattle.rules.specs.Landing.{Gone, landsAlone, landsAfter, at, landings, stands}
@@ -98,7 +99,7 @@ settled-same b g p row n (Long f l t) h = refl
 
 abbrev pub conditionAfter : Station → List Feedback → ℕ → Condition
 conditionAfter s row pick =
-    moved (turnOf (placesAfter (s .counters) row))
+    moved (turnOf (ownerOf (s .counters)) (placesAfter (s .counters) row))
     (requested (placesAfter (s .counters) row .resolution) (s .counters .next) pick (settledOf (s .counters) row (s .condition)))
 
 abbrev pub requesting : Station → List Feedback → Bool
@@ -106,7 +107,7 @@ requesting s row = requests (placesAfter (s .counters) row .resolution) (s .coun
 
 abbrev pub segmentSent : Station → List Feedback → ℕ
 segmentSent s row =
-    sends (turnOf (placesAfter (s .counters) row)) (placesAfter (s .counters) row .resolution) (s .counters .next)
+    sends (turnOf (ownerOf (s .counters)) (placesAfter (s .counters) row)) (placesAfter (s .counters) row .resolution) (s .counters .next)
     (settledOf (s .counters) row (s .condition))
 
 unfoldable pub stationAfter : Station → List Feedback → ℕ → Station
@@ -116,7 +117,7 @@ stationAfter s row pick =
 abbrev pub wentBy : Station → List Feedback → ℕ → StationSlot
 wentBy s row pick =
     record {
-      answer = Went (turnOf (placesAfter (s .counters) row)) (requestMinislot (requesting s row) pick) (segmentSent s row);
+      answer = Went (turnOf (ownerOf (s .counters)) (placesAfter (s .counters) row)) (requestMinislot (requesting s row) pick) (segmentSent s row);
       station = stationAfter s row pick;
     }
 

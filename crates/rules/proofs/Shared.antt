@@ -1,6 +1,6 @@
 -- The table as one set of counters that all stations share and a condition for each position, and its calls: the middle between the plain channel and
 -- the records. What is read of the wire is stated of the stations asked there. Assumes nothing.
-use mathlib.Core.Bool.{Bool, true, cond}
+use mathlib.Core.Bool.{Bool, true, _&&_, cond}
 use mathlib.Core.List.{List, [], _∷_, _++_}
 use mathlib.Core.Option.{Option, none, some}
 use Prim.Native.Nat.{ℕ, zero, suc, _+_}
@@ -11,15 +11,16 @@ use Rattle.rows.specs.Row.{weight}
 use Rattle.message.specs.Message.{fitsMessage, slotsFor}
 use Rattle.rules.specs.declared.Places.{Places}
 use Rattle.listlaws.specs.Lists.{onlyIf}
+use Rattle.rules.specs.Calendars.{freeEntry, freeCalendar, ownerIn, positionAfter}
 use Rattle.rules.specs.Queueing.{immediate, queuedRow, passes}
 use Rattle.rules.specs.Turns.{turnOf, isOpen}
 use Rattle.rules.specs.Falling.{following}
 use Rattle.rules.specs.StationLimits.{Condition, Free, Fresh, Asked, Resolving, Urgent, Long}
 use Rattle.rules.specs.StationCalls.{isFree}
-use Rattle.rules.specs.Calls.{Start, index, Answer, Refused, Taken, Went, Call, Offer, Slot}
-use Rattle.rules.specs.Plain.{stationFrom, inRange}
+use Rattle.rules.specs.Calls.{Start, index, Answer, Refused, Taken, Set, Went, Call, Offer, Slot, Calendar}
+use Rattle.rules.specs.Plain.{stationFrom, inRange, among, onChannel}
 use Rattle.rules.proofs.Views.{Sender, senderAt}
-use Rattle.rules.proofs.Clauses.{hearing, loneIndexOf, loneNumberOf, settle, asks, falls, sendsBy, serves, nLeft, less}
+use Rattle.rules.proofs.Clauses.{hearing, loneIndexOf, loneNumberOf, settle, asks, falls, sendsIn, serves, heeded, hLeft, nLeft, less, ownedOr}
 use Rattle.rules.specs.Outcome.{successes}
 
 pub record Table : Type 0 where
@@ -28,6 +29,8 @@ pub record Table : Type 0 where
   pub rq : ℕ → ℕ
   pub opened : ℕ → Bool
   pub next : ℕ
+  pub calendar : List ℕ
+  pub position : ℕ
   pub condition : ℕ → Condition
 
 pub record TableResult : Type 0 where
@@ -35,7 +38,7 @@ pub record TableResult : Type 0 where
   pub answer : Answer
 
 abbrev pub tableStart : Table
-tableStart = record { h = 0; n = 0; rq = λ g. 0; opened = λ g. true; next = 1; condition = λ k. Free }
+tableStart = record { h = 0; n = 0; rq = λ g. 0; opened = λ g. true; next = 1; calendar = freeCalendar; position = 0; condition = λ k. Free }
 
 -- a walk over the stations, in order: n of them from station j on; all that are below K
 abbrev pub collect {ℓ} : {A : Type ℓ} → (ℕ → List A) → ℕ → ℕ → List A
@@ -68,7 +71,17 @@ tableRefuse t n = record { state = t; answer = Refused n }
 abbrev pub tableAccept : Table → ℕ → ℕ → TableResult
 tableAccept t k s =
     record {
-      state = record { h = t .h; n = t .n; rq = t .rq; opened = t .opened; next = t .next; condition = λ i. cond (eqb i k) (Fresh s) (t .condition i) };
+      state =
+          record {
+            h = t .h;
+            n = t .n;
+            rq = t .rq;
+            opened = t .opened;
+            next = t .next;
+            calendar = t .calendar;
+            position = t .position;
+            condition = λ i. cond (eqb i k) (Fresh s) (t .condition i);
+          };
       answer = Taken s;
     }
 
@@ -76,6 +89,27 @@ abbrev pub tableOffer : Table → ℕ → Option ℕ → TableResult
 tableOffer t bytes none = tableRefuse t 16
 tableOffer t bytes (some k) =
     cond (isFree (t .condition k)) (cond (fitsMessage bytes) (tableAccept t k (slotsFor bytes)) (tableRefuse t 10)) (tableRefuse t 9)
+
+abbrev pub tableSet : Table → List ℕ → TableResult
+tableSet t entries =
+    record {
+      state =
+          record {
+            h = t .h;
+            n = t .n;
+            rq = t .rq;
+            opened = t .opened;
+            next = t .next;
+            calendar = entries;
+            position = t .position;
+            condition = t .condition;
+          };
+      answer = Set;
+    }
+
+-- the coming slot's owner
+abbrev pub tableOwner : Table → Option ℕ
+tableOwner t = ownerIn (getD (t .calendar) (t .position) freeEntry)
 
 -- the row, the immediate success, and the lengths before and after step 1
 abbrev pub tableRow : Start → Table → List Feedback
@@ -90,26 +124,32 @@ tableSuccess t heard = immediate (t .opened (t .next)) (weight heard)
 -- one slot, from the row heard, step 1's success and its lengths
 abbrev pub tableCondition : (ℕ → ℕ) → Table → List Feedback → Bool → Places → ℕ → Condition
 tableCondition pick t heard b c k =
-    falls (c .urgent) (c .long) (asks (c .resolution) (t .next) (pick k) (settle b (t .next) heard (tablePlaces t) (t .condition k)))
+    falls (heeded (tableOwner t) (c .urgent)) (heeded (tableOwner t) (c .long))
+    (asks (c .resolution) (t .next) (pick k) (settle b (t .next) heard (tablePlaces t) (t .condition k)))
 
 abbrev pub tableWent : Start → (ℕ → ℕ) → Table → List Feedback → Bool → Places → Table
 tableWent S pick t heard b c =
     record {
-      h = less (c .urgent);
-      n = nLeft (c .urgent) (c .long);
+      h = hLeft (tableOwner t) (c .urgent);
+      n = nLeft (tableOwner t) (c .urgent) (c .long);
       rq = λ g. cond (eqb g (t .next)) (less (c .resolution)) (t .rq g);
-      opened = λ g. cond (eqb g (t .next)) (isOpen (turnOf c)) (t .opened g);
+      opened = λ g. cond (eqb g (t .next)) (isOpen (turnOf (tableOwner t) c)) (t .opened g);
       next = following (S .n) (t .next);
+      calendar = t .calendar;
+      position = positionAfter (t .position);
       condition = tableCondition pick t heard b c;
     }
 
 abbrev pub tableSends : Table → List Feedback → Bool → Places → ℕ → ℕ
-tableSends t heard b c k = sendsBy (c .urgent) (c .long) (c .resolution) (settle b (t .next) heard (tablePlaces t) (t .condition k))
+tableSends t heard b c k =
+    sendsIn (tableOwner t) (c .urgent) (c .long) (c .resolution) (settle b (t .next) heard (tablePlaces t) (t .condition k))
 
 abbrev pub tableAnswer : Start → Table → List Feedback → Bool → Places → Answer
 tableAnswer S t heard b c =
     let x = gather (λ k. senderIf k (tableSends t heard b c k)) (length (S .indexes)) in
-    Went (turnOf c) (length x) (loneIndexOf (hearing (index S) x)) (loneNumberOf (hearing (index S) x)) (successes b heard + serves (c .urgent) (c .long))
+    let o = tableOwner t in
+    Went (turnOf o c) (ownedOr o (λ i. 1) (length x)) (ownedOr o (λ i. i) (loneIndexOf (hearing (index S) x)))
+    (ownedOr o (λ i. 0) (loneNumberOf (hearing (index S) x))) (successes b heard + serves (heeded o (c .urgent)) (heeded o (c .long)))
 
 abbrev pub tableSlot : Start → (ℕ → ℕ) → Table → List Feedback → Bool → Places → TableResult
 tableSlot S pick t heard b c = record { state = tableWent S pick t heard b c; answer = tableAnswer S t heard b c }
@@ -125,6 +165,8 @@ tableCall S t (Slot picks) =
     (cond (passes (tableSettled S t)) (tableRefuse t 7) (tableSlot S (λ k. getD picks k 1) t (tableRow S t) (tableSuccess t (tableRow S t)) (tableSettled S t)))
     (tableRefuse t 11))
     (tableRefuse t 17)
+tableCall S t (Calendar entries) =
+    cond (eqb (length entries) 24 && onChannel (S .indexes) entries) (cond (among entries 65535) (tableSet t entries) (tableRefuse t 21)) (tableRefuse t 20)
 
 abbrev pub tableAfter : Start → Table → List Call → Table
 tableAfter S t [] = t

@@ -1,8 +1,10 @@
--- One slot that goes through, for the whole table: counters, marks, conditions, and the answer. Assumes nothing.
+-- One slot that goes through, for the whole table: counters, marks, position, conditions, and the answer; the slot owned or not. Assumes
+-- nothing.
 use mathlib.Core.Path.{_≡_, refl, sym, ap, subst, _∙_}
 use mathlib.Core.Bool.{Bool, true, false, not, cond, _&&_, _||_}
 use mathlib.Core.List.{List, [], _∷_, _++_, map}
-use Prim.Native.Nat.{ℕ, zero, suc, _+_, _-_, _≤_, _<_}
+use mathlib.Core.Option.{Option, none, some}
+use Prim.Native.Nat.{ℕ, zero, suc, _+_, _-_, _%_, _≤_, _<_}
 use native.Mathlib.Omega.{arith}
 use mathlib.Core.Logic.{_≢_}
 use lib.Dec.{leb, ltb, eqb}
@@ -13,47 +15,57 @@ use Rattle.rules.proofs.SettleViews.{settle-fresh}
 use Rattle.rules.proofs.OneStation.{first, later, first-ok, station-ok}
 use Rattle.rules.proofs.DataSenders.{send-ok, senders-read, senders-length}
 use Rattle.minislot.specs.declared.Feedback.{Feedback}
-use Rattle.rules.proofs.Clauses.{less, read, settle, asks, serves, nLeft, hearing, loneIndexOf, loneNumberOf}
+use Rattle.rules.proofs.Clauses.{less, read, settle, asks, serves, heeded, hLeft, nLeft, sendsIn, ownedOr, hearing, loneIndexOf, loneNumberOf}
 use Rattle.rules.proofs.Relation.{lengths, Fits, Agrees, Same, Crowded, Shows, whole}
-use Rattle.rules.proofs.Shared.{Table, tableRow, tablePlaces, tableSuccess, tableSettled, tableCondition, tableWent, tableSends, tableAnswer, gather, senderIf}
+use Rattle.rules.proofs.Shared.{Table, tableOwner, tableRow, tablePlaces, tableSuccess, tableSettled, tableCondition, tableWent, tableSends, tableAnswer, gather, senderIf}
 use Rattle.rules.proofs.Views.{Sender, dataFrom}
+use Rattle.rules.specs.Calendars.{positionAfter}
 use Rattle.rules.specs.Calls.{Start, index, Went}
 use Rattle.rules.specs.Falling.{following}
 use Rattle.rules.specs.Messages.{Message, Segment, ofBy, of}
-use Rattle.rules.specs.Plain.{Queues, Plain, joinAlone, joinMinislot, joinRow, queuesOf, plainSuccess, plainSettled, overflows, renewed, plainMark, nextGroup, plainWent, plainLoneIndex, plainLoneSegment, plainAnswer, grown, plainTurn, served, sent, rest, longLeft, askingRow}
+use Rattle.rules.specs.Plain.{Queues, Plain, joinAlone, joinMinislot, joinRow, queuesOf, plainSuccess, plainSettled, overflows, plainOwner, renewed, plainMark, nextGroup, plainWent, plainSenders, plainLoneIndex, plainLoneSegment, plainAnswer, grown, plainTurn, served, sent, rest, urgentLeft, longLeft, askingRow}
 use Rattle.rules.specs.Queueing.{queuedRow, passes}
 use Rattle.rules.specs.StationLimits.{Free}
-use Rattle.rules.specs.Turns.{Turn, UrgentTurn, LongTurn, ResolveTurn, OpenTurn, isOpen, turnOf}
+use Rattle.rules.specs.Turns.{Turn, OwnedTurn, UrgentTurn, LongTurn, ResolveTurn, OpenTurn, isOpen, turnOf}
 use Rattle.rules.specs.declared.Places.{Places}
 use Rattle.rules.specs.Outcome.{successes}
 use borrow.Author.Tests.{eqb-true, eqb-false, lt-ltb, le-ltb, ltb-true, ltb-false, leb-true, leb-false, not-false}
 
--- lengths of what is left, and the turn
+-- lengths of what is left, and the turn; an owned slot leaves both queues whole
 length-rest {ℓ} : {A : Type ℓ} (l : List A) → less (length l) ≡ length (rest l)
 length-rest [] = refl
 length-rest (x ∷ l) = refl
 
-length-long : (u : List Message) (l : List Segment) → nLeft (length u) (length l) ≡ length (longLeft u l)
-length-long [] l = length-rest l
-length-long (x ∷ u) l = refl
+length-urgent : (o : Option ℕ) (u : List Message) → hLeft o (length u) ≡ length (urgentLeft o u)
+length-urgent (some x) u = refl
+length-urgent none u = length-rest u
 
-pub turn-eq : (u : List Message) (l : List Segment) (r : List (List Message)) → turnOf (record { urgent = length u; long = length l; resolution = length r }) ≡ plainTurn u l r
+length-long : (o : Option ℕ) (u : List Message) (l : List Segment) → nLeft o (length u) (length l) ≡ length (longLeft o u l)
+length-long (some x) u l = refl
+length-long none [] l = length-rest l
+length-long none (x ∷ u) l = refl
+
+pub turn-eq : (o : Option ℕ) (u : List Message) (l : List Segment) (r : List (List Message))
+    → turnOf o (record { urgent = length u; long = length l; resolution = length r }) ≡ plainTurn o u l r
 unfolding turnOf
-turn-eq (x ∷ u) l r = rw (lt-ltb 0 (suc (length u)) (omega arith))
-turn-eq [] (x ∷ l) r = rw (lt-ltb 0 (suc (length l)) (omega arith))
-turn-eq [] [] (x ∷ r) = rw (lt-ltb 0 (suc (length r)) (omega arith))
-turn-eq [] [] [] = refl
+turn-eq (some x) u l r = refl
+turn-eq none (x ∷ u) l r = rw (lt-ltb 0 (suc (length u)) (omega arith))
+turn-eq none [] (x ∷ l) r = rw (lt-ltb 0 (suc (length l)) (omega arith))
+turn-eq none [] [] (x ∷ r) = rw (lt-ltb 0 (suc (length r)) (omega arith))
+turn-eq none [] [] [] = refl
 
 mark-eq : (x : Turn) → isOpen x ≡ plainMark x
+mark-eq (OwnedTurn x) = refl
 mark-eq UrgentTurn = refl
 mark-eq LongTurn = refl
 mark-eq ResolveTurn = refl
 mark-eq OpenTurn = refl
 
-length-served : (u : List Message) (l : List Segment) → length (served u l) ≡ serves (length u) (length l)
-length-served (x ∷ u) l = refl
-length-served [] (y ∷ l) = refl
-length-served [] [] = refl
+length-served : (o : Option ℕ) (u : List Message) (l : List Segment) → length (served o u l) ≡ serves (heeded o (length u)) (heeded o (length l))
+length-served (some x) u l = refl
+length-served none (x ∷ u) l = refl
+length-served none [] (y ∷ l) = refl
+length-served none [] [] = refl
 
 pub length-asking : (pick : ℕ → ℕ) (l : List Message) (n j : ℕ) → length (askingRow pick l n j) ≡ n
 length-asking pick l zero j = refl
@@ -120,13 +132,26 @@ next-high n g l h = go (ltb g n) refl
     go true e = let w : g < n = ltb-true g n e in omega arith
     go false e = omega arith
 
+-- the next position: one on, 23 to 0
+position-eq : (q slots : ℕ) → q ≡ slots % 24 → positionAfter q ≡ (slots + 1) % 24
+position-eq q slots h = go (eqb q 23) refl
+  where
+    go : (b : Bool) → eqb q 23 ≡ b → cond b 0 (q + 1) ≡ (slots + 1) % 24
+    go true e = let w : q ≡ 23 = eqb-true q 23 e in omega arith
+    go false e = let w : q ≢ 23 = eqb-false q 23 e in omega arith
+
 rest-short {ℓ} : {A : Type ℓ} (l : List A) → length (rest l) ≤ length l
 rest-short [] = omega arith
 rest-short (x ∷ l) = omega arith
 
-left-short : (u : List Message) (l : List Segment) → length (longLeft u l) ≤ length l
-left-short [] l = rest-short l
-left-short (x ∷ u) l = omega arith
+urgent-short : (o : Option ℕ) (u : List Message) → length (urgentLeft o u) ≤ length u
+urgent-short (some x) u = omega arith
+urgent-short none u = rest-short u
+
+left-short : (o : Option ℕ) (u : List Message) (l : List Segment) → length (longLeft o u l) ≤ length l
+left-short (some x) u l = omega arith
+left-short none [] l = rest-short l
+left-short none (x ∷ u) l = omega arith
 
 pub and-both : (a b : Bool) → (a && b) ≡ true → (a ≡ true) × (b ≡ true)
 and-both true b e = (refl, e)
@@ -158,20 +183,35 @@ within-le q e =
     let (h, n) = and-both (leb (length (q .urgent)) 4095) (leb (length (q .long)) 65535) ab in
     (leb-true (length (q .urgent)) 4095 h, leb-true (length (q .long)) 65535 n, leb-true (length (q .resolution)) 4095 r)
 
--- a lone sender's index and segment, as the senders are read
-lone-index : (S : Start) (l : List Segment) → plainLoneIndex S l ≡ loneIndexOf (hearing (index S) (map dataFrom l))
-lone-index S [] = refl
-lone-index S (s ∷ []) = refl
-lone-index S (s ∷ t ∷ l) = refl
+-- the number of senders, and a lone sender's index and segment, as the senders are read; of an owned slot, its owner alone, with no segment
+count-eq : (o : Option ℕ) (l : List Segment) → plainSenders o l ≡ ownedOr o (λ i. 1) (length l)
+count-eq (some x) l = refl
+count-eq none l = refl
 
-lone-segment : (S : Start) (l : List Segment) → plainLoneSegment l ≡ loneNumberOf (hearing (index S) (map dataFrom l))
-lone-segment S [] = refl
-lone-segment S (s ∷ []) = refl
-lone-segment S (s ∷ t ∷ l) = refl
+lone-index : (S : Start) (o : Option ℕ) (l : List Segment) → plainLoneIndex S o l ≡ ownedOr o (λ i. i) (loneIndexOf (hearing (index S) (map dataFrom l)))
+lone-index S (some x) l = refl
+lone-index S none [] = refl
+lone-index S none (s ∷ []) = refl
+lone-index S none (s ∷ t ∷ l) = refl
 
--- the data senders of the plain channel; the segment that station k sends
+lone-number : (S : Start) (l : List Segment) → plainLoneSegment l ≡ loneNumberOf (hearing (index S) (map dataFrom l))
+lone-number S [] = refl
+lone-number S (s ∷ []) = refl
+lone-number S (s ∷ t ∷ l) = refl
+
+lone-segment : (S : Start) (o : Option ℕ) (u : List Message) (l : List Segment) (r : List (List Message)) (f : List Message)
+    → plainLoneSegment (sent o u l r f) ≡ ownedOr o (λ i. 0) (loneNumberOf (hearing (index S) (map dataFrom (sent o u l r f))))
+lone-segment S (some x) u l r f = refl
+lone-segment S none u l r f = lone-number S (sent none u l r f)
+
+-- a free station sends no segment
+sends-free : (o : Option ℕ) (h n r : ℕ) → sendsIn o h n r Free ≡ 0
+sends-free (some x) h n r = refl
+sends-free none h n r = refl
+
+-- the segments that the plain channel sends in a slot, and their senders
 abbrev pub segmentsSent : Plain → List Segment
-segmentsSent p = sent (plainSettled p .urgent) (plainSettled p .long) (plainSettled p .resolution) (p .fresh)
+segmentsSent p = sent (plainOwner p) (plainSettled p .urgent) (plainSettled p .long) (plainSettled p .resolution) (p .fresh)
 
 abbrev sentBy : Plain → List Sender
 sentBy p = map dataFrom (segmentsSent p)
@@ -180,6 +220,10 @@ pub went-cong : {t t′ : Turn} {n n′ i i′ s s′ d d′ : ℕ} → t ≡ t�
 went-cong a b c d e = cc
 
 module _ (S : Start) (p : Plain) (t : Table) (R : Same S p t) where
+  -- whose the coming slot is, the same on both sides
+  pub owner-eq : tableOwner t ≡ plainOwner p
+  owner-eq = rw (R .calendar, R .position)
+
   -- what the table hears and counts is what the plain channel has
   pub heard-eq : tableRow S t ≡ map (read (index S)) (p .group (p .next) .asking)
   heard-eq = rw (R .next) (rw (← (R .rows (p .next))) (row-eq S p (t .condition) (R .message) (R .outside) (R .agrees) (p .next)))
@@ -207,16 +251,21 @@ module _ (S : Start) (pick : ℕ → ℕ) (jl : (k : ℕ) → 1 ≤ pick k) (jh 
         ∙ ap (λ (x : ℕ). settle (plainSuccess (p .group (p .next))) x (map (read (index S)) (p .group (p .next) .asking)) (lengths (queuesOf p (p .group (p .next)))) (t .condition k)) (R .next)
 
     condition-eq : (k : ℕ) → tableCondition pick t heard b c k ≡ later pick p k (plainSettled p) (first S p (t .condition k))
-    condition-eq k = rw (first-eq k, ec, R .next)
+    condition-eq k = rw (first-eq k, ec, R .next, owner-eq S p t R)
 
     went-same : overflows (plainSettled p) ≡ false → Same S (plainWent S pick p (plainSettled p)) (tableWent S pick t heard b c)
     went-same inside =
         record {
-          h = rw ec (length-rest (plainSettled p .urgent));
-          n = rw ec (length-long (plainSettled p .urgent) (plainSettled p .long));
+          h = rw (ec, owner-eq S p t R) (length-urgent (plainOwner p) (plainSettled p .urgent));
+          n = rw (ec, owner-eq S p t R) (length-long (plainOwner p) (plainSettled p .urgent) (plainSettled p .long));
           rq = λ g. rw (ec, R .next) (go-rq g (eqb g (p .next)));
-          opened = λ g. rw (ec, R .next) (go-open g (eqb g (p .next)));
+          opened = λ g. rw (ec, R .next, owner-eq S p t R) (go-open g (eqb g (p .next)));
           next = rw (R .next) (next-eq (S .n) (p .next) (R .high));
+          calendar = R .calendar;
+          position = position-eq (t .position) (p .slots) (R .position);
+          size = R .size;
+          owners = R .owners;
+          free = R .free;
           low = next-low (S .n) (p .next);
           high = next-high (S .n) (p .next) (R .low) (R .high);
           rows = λ g. go-rows g (eqb g (p .next));
@@ -227,8 +276,8 @@ module _ (S : Start) (pick : ℕ → ℕ) (jl : (k : ℕ) → 1 ≤ pick k) (jh 
           strangers = R .strangers;
           numbered = R .numbered;
           idle = λ g l. go-idle g l (eqb g (p .next)) refl;
-          hmax = omega (arith, in-limits .0, rest-short (plainSettled p .urgent));
-          nmax = omega (arith, in-limits .1, left-short (plainSettled p .urgent) (plainSettled p .long));
+          hmax = omega (arith, in-limits .0, urgent-short (plainOwner p) (plainSettled p .urgent));
+          nmax = omega (arith, in-limits .1, left-short (plainOwner p) (plainSettled p .urgent) (plainSettled p .long));
           rmax = λ g. go-rmax g (eqb g (p .next));
         }
       where
@@ -237,8 +286,10 @@ module _ (S : Start) (pick : ℕ → ℕ) (jl : (k : ℕ) → 1 ≤ pick k) (jh 
         go-rq g false = R .rq g
 
         go-open : (g : ℕ) (b : Bool)
-            → cond b (isOpen (turnOf (lengths (plainSettled p)))) (t .opened g) ≡ (cond b (renewed S pick p (plainSettled p)) (p .group g)) .opened
-        go-open g true = ap isOpen (turn-eq (plainSettled p .urgent) (plainSettled p .long) (plainSettled p .resolution)) ∙ mark-eq (plainTurn (plainSettled p .urgent) (plainSettled p .long) (plainSettled p .resolution))
+            → cond b (isOpen (turnOf (plainOwner p) (lengths (plainSettled p)))) (t .opened g) ≡ (cond b (renewed S pick p (plainSettled p)) (p .group g)) .opened
+        go-open g true =
+            ap isOpen (turn-eq (plainOwner p) (plainSettled p .urgent) (plainSettled p .long) (plainSettled p .resolution))
+            ∙ mark-eq (plainTurn (plainOwner p) (plainSettled p .urgent) (plainSettled p .long) (plainSettled p .resolution))
         go-open g false = R .opened g
 
         in-limits : (length (plainSettled p .urgent) ≤ 4095) × (length (plainSettled p .long) ≤ 65535) × (length (plainSettled p .resolution) ≤ 4095)
@@ -264,8 +315,8 @@ module _ (S : Start) (pick : ℕ → ℕ) (jl : (k : ℕ) → 1 ≤ pick k) (jh 
     -- the answer
     each : (k : ℕ) → ofBy (λ s. s .position) k (sentBy p) ≡ senderIf k (tableSends t heard b c k)
     each k =
-        rw (first-eq k, ec)
-        (send-ok S k (R .message k) (plainSettled p .urgent) (plainSettled p .long) (plainSettled p .resolution) (p .fresh) (first S p (t .condition k)) s.fits (s .urgent zero) (s .long zero)
+        rw (first-eq k, ec, owner-eq S p t R)
+        (send-ok S k (R .message k) (plainOwner p) (plainSettled p .urgent) (plainSettled p .long) (plainSettled p .resolution) (p .fresh) (first S p (t .condition k)) s.fits (s .urgent zero) (s .long zero)
         (R .agrees k .fresh
         ∙ sym (settle-fresh (plainSuccess (p .group (p .next))) (p .next) (map (read (index S)) (p .group (p .next) .asking)) (lengths (queuesOf p (p .group (p .next)))) (R .message k) (t .condition k))))
       where
@@ -273,21 +324,29 @@ module _ (S : Start) (pick : ℕ → ℕ) (jl : (k : ℕ) → 1 ≤ pick k) (jh 
         s = first-ok S pick p k (R .message k) R.low R.high (jl k) (jh k) (t .condition k) (R .agrees k)
 
     silent : (k : ℕ) → length (S .indexes) ≤ k → tableSends t heard b c k ≡ 0
-    silent k l = rw (R .outside k l)
+    silent k l = rw (R .outside k l) (sends-free (tableOwner t) (c .urgent) (c .long) (c .resolution))
 
     answer-senders : length (segmentsSent p) ≡ length (gather (λ k. senderIf k (tableSends t heard b c k)) (length (S .indexes)))
     answer-senders = sym (length-map (segmentsSent p) dataFrom) ∙ senders-length (length (S .indexes)) (sentBy p) (tableSends t heard b c) silent each
 
-    delivered-eq : grown (p .history) (plainSettled p .history ++ served (plainSettled p .urgent) (plainSettled p .long)) ≡ successes b heard + serves (c .urgent) (c .long)
+    delivered-eq :
+        grown (p .history) (plainSettled p .history ++ served (plainOwner p) (plainSettled p .urgent) (plainSettled p .long))
+        ≡ successes b heard + serves (heeded (tableOwner t) (c .urgent)) (heeded (tableOwner t) (c .long))
     delivered-eq =
-        rw (eb, eh, ec)
-        (omega (arith, length-append (plainSettled p .history) (served (plainSettled p .urgent) (plainSettled p .long)), row-out (plainSuccess (p .group (p .next))) (index S) (p .group (p .next) .asking) (queuesOf p (p .group (p .next))), length-served (plainSettled p .urgent) (plainSettled p .long)))
+        rw (eb, eh, ec, owner-eq S p t R)
+        (omega (arith, length-append (plainSettled p .history) (served (plainOwner p) (plainSettled p .urgent) (plainSettled p .long)), row-out (plainSuccess (p .group (p .next))) (index S) (p .group (p .next) .asking) (queuesOf p (p .group (p .next))), length-served (plainOwner p) (plainSettled p .urgent) (plainSettled p .long)))
+
+    -- the senders are read alike
+    read-alike : hearing (index S) (sentBy p) ≡ hearing (index S) (gather (λ k. senderIf k (tableSends t heard b c k)) (length (S .indexes)))
+    read-alike = senders-read (length (S .indexes)) (sentBy p) (tableSends t heard b c) silent each (index S)
 
     answer-same : plainAnswer S p (plainWent S pick p (plainSettled p)) (plainSettled p) ≡ tableAnswer S t heard b c
     answer-same =
-        went-cong (rw ec (sym (turn-eq (plainSettled p .urgent) (plainSettled p .long) (plainSettled p .resolution)))) answer-senders
-        (lone-index S (segmentsSent p) ∙ ap loneIndexOf (senders-read (length (S .indexes)) (sentBy p) (tableSends t heard b c) silent each (index S)))
-        (lone-segment S (segmentsSent p) ∙ ap loneNumberOf (senders-read (length (S .indexes)) (sentBy p) (tableSends t heard b c) silent each (index S)))
+        went-cong (rw (ec, owner-eq S p t R) (sym (turn-eq (plainOwner p) (plainSettled p .urgent) (plainSettled p .long) (plainSettled p .resolution))))
+        (rw (← answer-senders, owner-eq S p t R) (count-eq (plainOwner p) (segmentsSent p)))
+        (rw (← read-alike, owner-eq S p t R) (lone-index S (plainOwner p) (segmentsSent p)))
+        (rw (← read-alike, owner-eq S p t R)
+        (lone-segment S (plainOwner p) (plainSettled p .urgent) (plainSettled p .long) (plainSettled p .resolution) (p .fresh)))
         delivered-eq
 
   pub slot-same : overflows (plainSettled p) ≡ false → Same S (plainWent S pick p (plainSettled p)) (tableWent S pick t (tableRow S t) (tableSuccess t (tableRow S t)) (tableSettled S t))
@@ -302,6 +361,6 @@ module _ (S : Start) (pick : ℕ → ℕ) (jl : (k : ℕ) → 1 ≤ pick k) (jh 
       subst (Fits S (R .message k)) (sym (first-eq (tableRow S t) (tableSuccess t (tableRow S t)) (tableSettled S t) (heard-eq S p t R) (success-eq S p t R) (settled-eq S p t R) k))
       (first-ok S pick p k (R .message k) R.low R.high (jl k) (jh k) (t .condition k) (R .agrees k) .fits)
 
-  -- as many stations send data as the plain channel sends segments
+  -- as many stations send a segment as the plain channel sends segments
   pub senders-eq : length (segmentsSent p) ≡ length (gather (λ k. senderIf k (tableSends t (tableRow S t) (tableSuccess t (tableRow S t)) (tableSettled S t) k)) (length (S .indexes)))
   senders-eq = answer-senders (tableRow S t) (tableSuccess t (tableRow S t)) (tableSettled S t) (heard-eq S p t R) (success-eq S p t R) (settled-eq S p t R)

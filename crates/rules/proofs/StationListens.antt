@@ -1,5 +1,5 @@
 -- A station keeps the listener's counters: when its slot goes through, a listener with its counters that hears the same row gives the same turn and has the
--- same counters after. Assumes nothing.
+-- same counters after; when its calendar is set, so is that of a listener with its counters, and they have the same counters after. Assumes nothing.
 use mathlib.Core.Path.{_≡_, refl}
 use mathlib.Core.Bool.{Bool, true, false, cond}
 use mathlib.Core.List.{List}
@@ -11,6 +11,9 @@ use Rattle.rules.specs.declared.StationSlot.{StationSlot}
 use Rattle.rules.specs.declared.Listened.{Listened}
 use Rattle.rules.specs.declared.ListenAnswer.the-variants.{Went as WentListening}
 use Rattle.rules.specs.declared.SlotAnswer.the-variants.{Went as WentSlot}
+use Rattle.rules.specs.declared.StationSet.{StationSet}
+use Rattle.rules.specs.declared.CalendarAnswer.the-variants.{Set}
+use Rattle.rules.specs.Settings.{entriesNumberOf, calendarNumberOf, calendarOf, refusedSetting, stationCalendarNumberOf, stationCalendarOf}
 use Rattle.rules.specs.Limits.{between}
 use Rattle.rules.specs.Queueing.{stepOneOf}
 use Rattle.rules.specs.Turns.{Turn}
@@ -36,3 +39,12 @@ station-listens s words counts pick turn minislot segment e =
     let (e7, after7) = test-passed (stepOneOf (s .counters) (feedbacks (readings words counts)) .fits) 7 _ refl after1 in
     let went = rw none at e in
     rw (none, station-in s e18 .counters, e6, e1, e7) cc
+
+pub calendar-listens : (s : Station) (entries : List ℕ) → stationCalendarOf s entries .answer ≡ Set
+    → calendarOf (s .counters) entries ≡ record { answer = Set; counters = stationCalendarOf s entries .station .counters }
+unfolding stationCalendarOf stationCalendarNumberOf calendarOf calendarNumberOf
+calendar-listens s entries e =
+    let none =
+    through-only (λ (r : StationSet). r .answer ≡ Set) (stationCalendarNumberOf s entries) (refusedSetting s) _ (λ k q. let z : _≡_ {A = ℕ} 0 1 = cc in absurd (omega arith)) e in
+    let (e18, after18) = test-passed (stationWithin s) 18 (entriesNumberOf entries) refl none in
+    rw (none, station-in s e18 .counters, after18)

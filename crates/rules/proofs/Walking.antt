@@ -19,6 +19,7 @@ use Rattle.minislot.specs.Reading.{readingOf}
 use Rattle.rows.specs.Row.{readings, firstNumber, feedbacks, weight}
 use Rattle.rules.specs.declared.Station.{Station}
 use Rattle.rules.specs.declared.Places.{Places}
+use Rattle.rules.specs.Calendars.{ownerOf}
 use Rattle.rules.specs.Limits.{between}
 use Rattle.rules.specs.Queueing.{queuedRow, immediate, placesOf, immediateOf, placesAfter, passes}
 use Rattle.rules.specs.Turns.{turnOf, isOpen}
@@ -34,7 +35,7 @@ use Rattle.rules.specs.Stepping.{stepOf}
 use Rattle.rules.specs.Calls.{Start, index}
 use Rattle.rules.proofs.Clauses.{settle, asks, less}
 use Rattle.rules.proofs.ClauseLaws.{Placed, settle-is, asks-is, falls-is, sends-is, less-is, urgent-falls-is, long-falls-is}
-use Rattle.rules.proofs.Shared.{Table, TableResult, tableRefuse, tableAccept, tableOffer, tablePlaces, tableSuccess, tableCondition, tableWent, tableSends}
+use Rattle.rules.proofs.Shared.{Table, TableResult, tableRefuse, tableAccept, tableOffer, tablePlaces, tableSuccess, tableOwner, tableCondition, tableWent, tableSends}
 use Rattle.rules.proofs.Settled.{settledOf, segmentSent, conditionAfter, stationAfter, wentBy, step-is}
 use Rattle.rules.proofs.QueueingLaws.{fits-if}
 use Rattle.rules.proofs.LimitLaws.{within-limits, station-in}
@@ -59,6 +60,8 @@ pub record IsStation (S : Start) (t : Table) (k : ℕ) (s : Station) : Type 0 wh
   pub arrays : (length (s .counters .resolution) ≡ 8) × (length (s .counters .opened) ≡ 8)
   pub resolution : (g : ℕ) → 1 ≤ g → g ≤ 8 → getD (s .counters .resolution) (g - 1) 0 ≡ t .rq g
   pub mark : (g : ℕ) → 1 ≤ g → g ≤ 8 → getD (s .counters .opened) (g - 1) false ≡ t .opened g
+  pub calendar : s .counters .calendar ≡ t .calendar
+  pub position : s .counters .position ≡ t .position
   pub condition : s .condition ≡ t .condition k
 
 -- the list from station j on
@@ -77,6 +80,9 @@ module _ (S : Start) (t : Table) (gl : 1 ≤ t .next) (gh : t .next ≤ 8) (hear
   pub places-is : placesOf (s .counters) ≡ tablePlaces t
   places-is = rw (a .next, a .urgent, a .long, a .resolution (t .next) gl gh)
 
+  pub owner-is : ownerOf (s .counters) ≡ tableOwner t
+  owner-is = rw (a .calendar, a .position)
+
   pub success-is : immediateOf (s .counters) heard ≡ tableSuccess t heard
   unfolding immediateOf
   success-is =
@@ -92,15 +98,15 @@ module _ (S : Start) (t : Table) (gl : 1 ≤ t .next) (gh : t .next ≤ 8) (hear
 
     pub sent-is : Placed (tableSettledBy t heard k) → segmentSent s heard ≡ tableSends t heard (tableSuccess t heard) (tableQueued t heard) k
     sent-is w₁ =
-        rw (queued-is, settled-is, a .next)
-        (sends-is (t .next) (tableQueued t heard .urgent) (tableQueued t heard .long) (tableQueued t heard .resolution) (tableSettledBy t heard k) w₁)
+        rw (queued-is, settled-is, a .next, owner-is)
+        (sends-is (tableOwner t) (t .next) (tableQueued t heard .urgent) (tableQueued t heard .long) (tableQueued t heard .resolution) (tableSettledBy t heard k) w₁)
 
     module _ (pick : ℕ → ℕ) (w₁ : Placed (tableSettledBy t heard k)) (w₂ : Placed (asks (tableQueued t heard .resolution) (t .next) (pick k) (tableSettledBy t heard k))) where
       condition-is : conditionAfter s heard (pick k) ≡ tableCondition pick t heard (tableSuccess t heard) (tableQueued t heard) k
       condition-is =
-          rw (queued-is, settled-is, a .next)
-          (ap (moved (turnOf (tableQueued t heard))) (asks-is (tableQueued t heard .resolution) (t .next) (pick k) (tableSettledBy t heard k) w₁)
-          ∙ falls-is (tableQueued t heard .urgent) (tableQueued t heard .long) (tableQueued t heard .resolution)
+          rw (queued-is, settled-is, a .next, owner-is)
+          (ap (moved (turnOf (tableOwner t) (tableQueued t heard))) (asks-is (tableQueued t heard .resolution) (t .next) (pick k) (tableSettledBy t heard k) w₁)
+          ∙ falls-is (tableOwner t) (tableQueued t heard .urgent) (tableQueued t heard .long) (tableQueued t heard .resolution)
           (asks (tableQueued t heard .resolution) (t .next) (pick k) (tableSettledBy t heard k)) w₂)
 
       pub station-is : IsStation S (tableWent S pick t heard (tableSuccess t heard) (tableQueued t heard)) k (stationAfter s heard (pick k))
@@ -111,15 +117,17 @@ module _ (S : Start) (t : Table) (gl : 1 ≤ t .next) (gh : t .next ≤ 8) (hear
             minislots = a .minislots;
             groups = a .groups;
             next = rw (a .groups, a .next);
-            urgent = rw queued-is (urgent-falls-is (tableQueued t heard .urgent) (tableQueued t heard .long) (tableQueued t heard .resolution));
-            long = rw queued-is (long-falls-is (tableQueued t heard .urgent) (tableQueued t heard .long) (tableQueued t heard .resolution));
+            urgent = rw (queued-is, owner-is) (urgent-falls-is (tableOwner t) (tableQueued t heard .urgent) (tableQueued t heard .long) (tableQueued t heard .resolution));
+            long = rw (queued-is, owner-is) (long-falls-is (tableOwner t) (tableQueued t heard .urgent) (tableQueued t heard .long) (tableQueued t heard .resolution));
             arrays = (length-set (s .counters .resolution) (s .counters .next - 1) _ ∙ a .arrays .0, length-set (s .counters .opened) (s .counters .next - 1) _ ∙ a .arrays .1);
             resolution = λ g l h.
                 rw (queued-is, a .next, less-is (tableQueued t heard .resolution))
                 (get-set (s .counters .resolution) (t .next) g (less-of) 0 gl l (omega (arith, a .arrays .0)) ∙ ap (cond (eqb g (t .next)) less-of) (a .resolution g l h));
             mark = λ g l h.
-                rw (queued-is, a .next)
+                rw (queued-is, a .next, owner-is)
                 (get-set (s .counters .opened) (t .next) g (mark-of) false gl l (omega (arith, a .arrays .1)) ∙ ap (cond (eqb g (t .next)) mark-of) (a .mark g l h));
+            calendar = a .calendar;
+            position = rw (a .position);
             condition = condition-is;
           }
         where
@@ -127,7 +135,7 @@ module _ (S : Start) (t : Table) (gl : 1 ≤ t .next) (gh : t .next ≤ 8) (hear
           less-of = less (tableQueued t heard .resolution)
 
           mark-of : Bool
-          mark-of = isOpen (turnOf (tableQueued t heard))
+          mark-of = isOpen (turnOf (tableOwner t) (tableQueued t heard))
 
 -- a row of m minislots or fewer is heard in m or fewer
 pub feedbacks-short : (words counts : List ℕ) → length (feedbacks (readings words counts)) ≤ length words

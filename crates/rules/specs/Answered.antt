@@ -1,5 +1,5 @@
--- What each call of a listener or a station answers, as the paper's number and values (paper 01, "Operations and their numbers, in order of
--- checking"): the number is that of the call's own list, and what is told with 0 stands here. proofs/NumbersHold shows that the calls'
+-- What each call of a listener or a station answers, as the paper's number and values (paper 01, "Operations and their numbers, in order
+-- of checking"): the number is that of the call's own list, and what is told with 0 stands here. proofs/NumbersHold shows that the calls'
 -- definitions answer just this. Assumes nothing.
 use mathlib.Core.List.{List, [], _∷_}
 use Prim.Native.Nat.{ℕ}
@@ -11,12 +11,14 @@ use Rattle.rules.specs.declared.Outcome.{Outcome}
 use Rattle.rules.specs.declared.Station.{Station}
 use Rattle.rules.specs.Refusing.{byNumber}
 use Rattle.rules.specs.Starting.{startNumberOf}
+use Rattle.rules.specs.Calendars.{ownerOf}
 use Rattle.rules.specs.Queueing.{stepOneOf}
 use Rattle.rules.specs.Turns.{Turn, turnOf}
 use Rattle.rules.specs.Listening.{listenNumberOf}
 use Rattle.rules.specs.Outcome.{outcomeOf}
 use Rattle.rules.specs.Stepping.{actsOf}
 use Rattle.rules.specs.StationCalls.{stationStartNumberOf, offerNumberOf, slotNumberOf}
+use Rattle.rules.specs.Settings.{calendarNumberOf, stationCalendarNumberOf}
 use Rattle.rules.specs.Numbers.{Told, refusal, went}
 use Rattle.rules.specs.Recorded.{stretch}
 
@@ -28,7 +30,8 @@ unfoldable pub startToldOf : ℕ → ℕ → Told
 startToldOf m n = told (startNumberOf m n) [] []
 
 unfoldable pub listenToldOf : Counters → List ℕ → List ℕ → Told
-listenToldOf c words counts = told (listenNumberOf c words counts) (turnOf (stepOneOf c (feedbacks (readings words counts)) .after) ∷ []) []
+listenToldOf c words counts =
+    told (listenNumberOf c words counts) (turnOf (ownerOf c) (stepOneOf c (feedbacks (readings words counts)) .after) ∷ []) []
 
 unfoldable pub stationStartToldOf : ℕ → ℕ → ℕ → Told
 stationStartToldOf m n index = told (stationStartNumberOf m n index) [] []
@@ -47,6 +50,12 @@ unfoldable pub slotToldOf : Station → List ℕ → List ℕ → ℕ → Told
 slotToldOf s words counts pick =
     let o = outcomeOf (s .counters) (feedbacks (readings words counts)) in
     told (slotNumberOf s words counts pick) (slotTurn o) (actedValues (actsOf o (s .condition) pick))
+
+unfoldable pub calendarToldOf : Counters → List ℕ → Told
+calendarToldOf c entries = told (calendarNumberOf c entries) [] []
+
+unfoldable pub stationCalendarToldOf : Station → List ℕ → Told
+stationCalendarToldOf s entries = told (stationCalendarNumberOf s entries) [] []
 
 -- ---- on a stretch from the middle of a longer recording
 

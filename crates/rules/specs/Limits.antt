@@ -1,11 +1,12 @@
--- A record of counters within its limits (paper 01, "Counters", and the counters' part of "A record is within its limits"). Assumes
--- nothing.
+-- A record of counters within its limits (paper 01, "Counters", and the counters' part of "A record is within its limits"; paper 02,
+-- T-02). Assumes nothing.
 use mathlib.Core.Bool.{Bool, true, _&&_, cond}
 use Prim.Native.Nat.{ℕ}
 use lib.Dec.{leb, ltb, eqb}
 use lib.ListN.{length}
 use Rattle.listlaws.specs.Every.{everyFrom}
 use Rattle.rules.specs.declared.Counters.{Counters}
+use Rattle.rules.specs.Calendars.{calendarWithin}
 
 -- low ≤ x ≤ high
 abbrev pub between : ℕ → ℕ → ℕ → Bool
@@ -42,4 +43,4 @@ countsWithin c =
 
 -- THE LIMITS of a record of counters (refusal 18 for a listener)
 unfoldable pub withinLimits : Counters → Bool
-withinLimits c = between 2 (c .minislots) 8 && between 1 (c .groups) 8 && countsWithin c
+withinLimits c = between 2 (c .minislots) 8 && between 1 (c .groups) 8 && countsWithin c && calendarWithin c

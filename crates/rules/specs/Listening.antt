@@ -11,6 +11,7 @@ use Rattle.rules.specs.declared.Counters.{Counters}
 use Rattle.rules.specs.declared.Listened.{Listened}
 use Rattle.rules.specs.declared.ListenAnswer.the-variants.{Went, Refused}
 use Rattle.rules.specs.Refusing.{unless, orNext, byNumber}
+use Rattle.rules.specs.Calendars.{ownerOf}
 use Rattle.rules.specs.Limits.{withinLimits}
 use Rattle.rules.specs.Queueing.{stepOneOf}
 use Rattle.rules.specs.Turns.{turnOf}
@@ -21,7 +22,8 @@ refusedListening c n = record { answer = Refused n; counters = c }
 
 -- the turn, and the record after steps 1 to 5
 unfoldable pub listened : Counters → List Feedback → Listened
-listened c row = record { answer = Went (turnOf (stepOneOf c row .after)); counters = fallen c (stepOneOf c row .after) }
+listened c row =
+    record { answer = Went (turnOf (ownerOf c) (stepOneOf c row .after)); counters = fallen c (stepOneOf c row .after) }
 
 -- the row has m minislots (refusal 6)
 abbrev pub hasRow : ℕ → List ℕ → List ℕ → Bool

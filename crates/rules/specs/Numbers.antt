@@ -10,7 +10,9 @@ use Rattle.rules.specs.declared.OfferAnswer.{OfferAnswer}
 use Rattle.rules.specs.declared.OfferAnswer.the-variants.{Taken as TakenOffer, Refused as RefusedOffer}
 use Rattle.rules.specs.declared.SlotAnswer.{SlotAnswer}
 use Rattle.rules.specs.declared.SlotAnswer.the-variants.{Went as WentSlot, Refused as RefusedSlot}
-use Rattle.rules.specs.Calls.{Answer, Refused, Taken, Went}
+use Rattle.rules.specs.declared.CalendarAnswer.{CalendarAnswer}
+use Rattle.rules.specs.declared.CalendarAnswer.the-variants.{Set as CalendarIsSet, Refused as RefusedCalendar}
+use Rattle.rules.specs.Calls.{Answer, Refused, Taken, Set, Went}
 use Rattle.rules.specs.Turns.{Turn}
 
 -- an answer as the paper gives it: the number of the refusal, 0 where the call went through; then the turn, if it answers one, and its
@@ -48,9 +50,15 @@ abbrev pub slotTold : SlotAnswer → Told
 slotTold (WentSlot turn minislot segment) = went (turn ∷ []) (minislot ∷ segment ∷ [])
 slotTold (RefusedSlot n) = refusal n
 
--- an offer on a channel: the slot total; a channel's slot: the turn, then the number of data senders, the index and segment of a lone
--- sender, and the slots delivered
+-- setting the calendar of a listener or a station: no values
+abbrev pub calendarTold : CalendarAnswer → Told
+calendarTold CalendarIsSet = went [] []
+calendarTold (RefusedCalendar n) = refusal n
+
+-- an offer on a channel: the slot total; setting its calendar: no values; a channel's slot: the turn, then the number of data senders, the
+-- index and segment of a lone sender, and the slots delivered
 abbrev pub callTold : Answer → Told
 callTold (Refused n) = refusal n
 callTold (Taken total) = went [] (total ∷ [])
+callTold Set = went [] []
 callTold (Went turn senders index segment delivered) = went (turn ∷ []) (senders ∷ index ∷ segment ∷ delivered ∷ [])

@@ -9,6 +9,7 @@ use Rattle.minislot.specs.declared.Feedback.the-variants.{Empty, Single, Collid
 use Rattle.rules.specs.declared.Counters.{Counters}
 use Rattle.rules.specs.declared.Outcome.{Outcome}
 use Rattle.rules.specs.declared.StepOne.{StepOne}
+use Rattle.rules.specs.Calendars.{ownerOf}
 use Rattle.rules.specs.Queueing.{stepOneOf}
 use Rattle.rules.specs.Turns.{turnOf}
 use Rattle.rules.specs.Falling.{fallen}
@@ -29,7 +30,7 @@ unfoldable pub outcomeBy : Counters → List Feedback → StepOne → Outcome
 outcomeBy c row one =
     record {
       group = c .next;
-      turn = turnOf (one .after);
+      turn = turnOf (ownerOf c) (one .after);
       resolution = one .after .resolution;
       landed = landings (one .success) (one .before) row 8;
       counters = fallen c (one .after);

@@ -1,16 +1,17 @@
--- THE PLAIN CHANNEL (paper 01, "The plain channel"): queues of messages and of segments, fed the start's m, n and indexes and each call's
--- arguments, nothing from table or wire. Assumes nothing.
-use mathlib.Core.Bool.{Bool, true, false, not, _&&_, cond}
+-- THE PLAIN CHANNEL (paper 01, "The plain channel"; paper 02, T-02): queues of messages and of segments, fed the start's m, n and indexes
+-- and each call's arguments, nothing from table or wire. Assumes nothing.
+use mathlib.Core.Bool.{Bool, true, false, not, _&&_, _||_, cond}
 use mathlib.Core.List.{List, [], _∷_, _++_, map}
 use mathlib.Core.Option.{Option, none, some}
-use Prim.Native.Nat.{ℕ, zero, suc, _+_, _-_}
+use Prim.Native.Nat.{ℕ, zero, suc, _+_, _-_, _%_}
 use lib.Dec.{leb, ltb, eqb}
-use lib.ListN.{length, getD}
+use lib.ListN.{length, getD, replicate}
 use Rattle.message.specs.Message.{fitsMessage, slotsFor}
 use Rattle.listlaws.specs.Lists.{keepIf}
 use Rattle.rules.specs.Messages.{Message, Segment, segment, segmentsFrom, of, deliveredOf}
-use Rattle.rules.specs.Turns.{Turn, UrgentTurn, LongTurn, ResolveTurn, OpenTurn}
-use Rattle.rules.specs.Calls.{Start, index, Answer, Refused, Taken, Went, Call, Offer, Slot}
+use Rattle.rules.specs.Calendars.{ownerIn}
+use Rattle.rules.specs.Turns.{Turn, OwnedTurn, UrgentTurn, LongTurn, ResolveTurn, OpenTurn}
+use Rattle.rules.specs.Calls.{Start, index, Answer, Refused, Taken, Set, Went, Call, Offer, Slot, Calendar}
 
 -- ---- what it keeps
 
@@ -20,14 +21,16 @@ pub record Group : Type 0 where
   pub asking : List (List Message)
   pub resolution : List (List Message)
 
--- fresh messages, an urgent queue of messages, a long queue of segments, the next group, the groups; all messages taken; the history of
--- deliveries
+-- fresh messages, an urgent queue of messages, a long queue of segments, the next group, the groups; the calendar as it was set and the
+-- slots since the start; all messages taken; the history of deliveries
 pub record Plain : Type 0 where
   pub fresh : List Message
   pub urgent : List Message
   pub long : List Segment
   pub next : ℕ
   pub group : ℕ → Group
+  pub calendar : List ℕ
+  pub slots : ℕ
   pub taken : List Message
   pub history : List Segment
 
@@ -54,8 +57,8 @@ plainWeight ((m ∷ n ∷ l) ∷ row) = 2 + plainWeight row
 abbrev pub plainSuccess : Group → Bool
 plainSuccess G = G .opened && eqb (plainWeight (G .asking)) 1
 
--- a lone message: whether success is immediate, whether it has one slot. One slot: delivered on immediate success, else it joins the urgent
--- queue; a longer one's segments join the long queue in order
+-- a lone message: whether success is immediate, whether it has one slot. One slot: delivered on immediate success, else it joins the
+-- urgent queue; a longer one's segments join the long queue in order
 abbrev pub joinAlone : Bool → Bool → Message → Queues → Queues
 joinAlone true true m q =
     record { urgent = q .urgent; long = q .long; resolution = q .resolution; history = q .history ++ (segment m 1 ∷ []) }
@@ -87,14 +90,20 @@ overflows q = not (leb (length (q .urgent)) 4095 && leb (length (q .long)) 65535
 
 -- ---- steps 2 to 5
 
--- turn and mark are step 2's, lengths being counters
-abbrev pub plainTurn : List Message → List Segment → List (List Message) → Turn
-plainTurn (m ∷ u) l r = UrgentTurn
-plainTurn [] (s ∷ l) r = LongTurn
-plainTurn [] [] (x ∷ r) = ResolveTurn
-plainTurn [] [] [] = OpenTurn
+-- the slots since the start, modulo 24, give the calendar's position; 65,535 stands for free
+abbrev pub plainOwner : Plain → Option ℕ
+plainOwner p = ownerIn (getD (p .calendar) (p .slots % 24) 65535)
+
+-- an owned slot's turn names the owner; else turn and mark are step 2's, lengths being counters
+abbrev pub plainTurn : Option ℕ → List Message → List Segment → List (List Message) → Turn
+plainTurn (some x) u l r = OwnedTurn x
+plainTurn none (m ∷ u) l r = UrgentTurn
+plainTurn none [] (s ∷ l) r = LongTurn
+plainTurn none [] [] (x ∷ r) = ResolveTurn
+plainTurn none [] [] [] = OpenTurn
 
 abbrev pub plainMark : Turn → Bool
+plainMark (OwnedTurn x) = false
 plainMark UrgentTurn = false
 plainMark LongTurn = false
 plainMark ResolveTurn = false
@@ -123,26 +132,33 @@ abbrev pub askingRow : (ℕ → ℕ) → List Message → ℕ → ℕ → List (
 askingRow pick l zero j = []
 askingRow pick l (suc n) j = pickedIn pick j l ∷ askingRow pick l n (suc j)
 
--- urgent or long: the first entry leaves, is sent and delivered
-abbrev pub longLeft : List Message → List Segment → List Segment
-longLeft [] l = rest l
-longLeft (m ∷ u) l = l
+-- urgent or long: the first entry leaves, is sent and delivered; in an owned slot none does
+abbrev pub urgentLeft : Option ℕ → List Message → List Message
+urgentLeft (some x) u = u
+urgentLeft none u = rest u
 
-abbrev pub served : List Message → List Segment → List Segment
-served (m ∷ u) l = segment m 1 ∷ []
-served [] (s ∷ l) = s ∷ []
-served [] [] = []
+abbrev pub longLeft : Option ℕ → List Message → List Segment → List Segment
+longLeft (some x) u l = l
+longLeft none [] l = rest l
+longLeft none (m ∷ u) l = l
+
+abbrev pub served : Option ℕ → List Message → List Segment → List Segment
+served (some x) u l = []
+served none (m ∷ u) l = segment m 1 ∷ []
+served none [] (s ∷ l) = s ∷ []
+served none [] [] = []
 
 -- open: each one-slot message that began to ask in this slot is sent
 abbrev pub oneSlot : List Message → List Message
 oneSlot [] = []
 oneSlot (m ∷ l) = keepIf (eqb (m .slots) 1) m (oneSlot l)
 
-abbrev pub sent : List Message → List Segment → List (List Message) → List Message → List Segment
-sent (m ∷ u) l r fresh = segment m 1 ∷ []
-sent [] (s ∷ l) r fresh = s ∷ []
-sent [] [] (x ∷ r) fresh = []
-sent [] [] [] fresh = map (λ (m : Message). segment m 1) (oneSlot fresh)
+abbrev pub sent : Option ℕ → List Message → List Segment → List (List Message) → List Message → List Segment
+sent (some x) u l r fresh = []
+sent none (m ∷ u) l r fresh = segment m 1 ∷ []
+sent none [] (s ∷ l) r fresh = s ∷ []
+sent none [] [] (x ∷ r) fresh = []
+sent none [] [] [] fresh = map (λ (m : Message). segment m 1) (oneSlot fresh)
 
 -- the next group follows: 1, 2, .. n, 1, ..
 abbrev pub nextGroup : ℕ → ℕ → ℕ
@@ -151,7 +167,7 @@ nextGroup n g = cond (ltb g n) (g + 1) 1
 abbrev pub renewed : Start → (ℕ → ℕ) → Plain → Queues → Group
 renewed S pick p q =
     record {
-      opened = plainMark (plainTurn (q .urgent) (q .long) (q .resolution));
+      opened = plainMark (plainTurn (plainOwner p) (q .urgent) (q .long) (q .resolution));
       asking = askingRow pick (askers (q .resolution) (p .fresh)) (S .m) 1;
       resolution = rest (q .resolution);
     }
@@ -160,12 +176,14 @@ abbrev pub plainWent : Start → (ℕ → ℕ) → Plain → Queues → Plain
 plainWent S pick p q =
     record {
       fresh = staysFresh (q .resolution) (p .fresh);
-      urgent = rest (q .urgent);
-      long = longLeft (q .urgent) (q .long);
+      urgent = urgentLeft (plainOwner p) (q .urgent);
+      long = longLeft (plainOwner p) (q .urgent) (q .long);
       next = nextGroup (S .n) (p .next);
       group = λ g. cond (eqb g (p .next)) (renewed S pick p q) (p .group g);
+      calendar = p .calendar;
+      slots = p .slots + 1;
       taken = p .taken;
-      history = q .history ++ served (q .urgent) (q .long);
+      history = q .history ++ served (plainOwner p) (q .urgent) (q .long);
     }
 
 -- ---- answers
@@ -173,11 +191,17 @@ plainWent S pick p q =
 abbrev pub plainRefuse : Plain → ℕ → PlainResult
 plainRefuse p n = record { state = p; answer = Refused n }
 
--- the index and the segment of a lone sender, 0 and 0 if there isn't just one
-abbrev pub plainLoneIndex : Start → List Segment → ℕ
-plainLoneIndex S [] = 0
-plainLoneIndex S (s ∷ []) = index S (s .message .station)
-plainLoneIndex S (s ∷ t ∷ l) = 0
+-- the number of data senders: an owned slot has one, its owner, with its stream; else those that sent these segments
+abbrev pub plainSenders : Option ℕ → List Segment → ℕ
+plainSenders (some x) l = 1
+plainSenders none l = length l
+
+-- the index and the segment of a lone sender, 0 and 0 if there isn't just one; a stream is no segment
+abbrev pub plainLoneIndex : Start → Option ℕ → List Segment → ℕ
+plainLoneIndex S (some x) l = x
+plainLoneIndex S none [] = 0
+plainLoneIndex S none (s ∷ []) = index S (s .message .station)
+plainLoneIndex S none (s ∷ t ∷ l) = 0
 
 abbrev pub plainLoneSegment : List Segment → ℕ
 plainLoneSegment [] = 0
@@ -190,8 +214,9 @@ grown before after = length after - length before
 
 abbrev pub plainAnswer : Start → Plain → Plain → Queues → Answer
 plainAnswer S p p′ q =
-    let x = sent (q .urgent) (q .long) (q .resolution) (p .fresh) in
-    Went (plainTurn (q .urgent) (q .long) (q .resolution)) (length x) (plainLoneIndex S x) (plainLoneSegment x)
+    let o = plainOwner p in
+    let x = sent o (q .urgent) (q .long) (q .resolution) (p .fresh) in
+    Went (plainTurn o (q .urgent) (q .long) (q .resolution)) (plainSenders o x) (plainLoneIndex S o x) (plainLoneSegment x)
     (grown (p .history) (p′ .history))
 
 abbrev pub plainSlot : Start → (ℕ → ℕ) → Plain → PlainResult
@@ -233,6 +258,8 @@ plainAccept p m =
             long = p .long;
             next = p .next;
             group = p .group;
+            calendar = p .calendar;
+            slots = p .slots;
             taken = p .taken ++ (m ∷ []);
             history = p .history;
           };
@@ -246,6 +273,37 @@ plainOffer p bytes (some k) =
     (cond (fitsMessage bytes) (plainAccept p (record { serial = length (p .taken); station = k; slots = slotsFor bytes }))
     (plainRefuse p 10))
 
+-- ---- calendars
+
+-- a number is in a list
+abbrev pub among : List ℕ → ℕ → Bool
+among [] x = false
+among (i ∷ l) x = eqb i x || among l x
+
+-- 20: not 24 entries, each free or the index of a station of the channel
+abbrev pub onChannel : List ℕ → List ℕ → Bool
+onChannel indexes [] = true
+onChannel indexes (x ∷ l) = (eqb x 65535 || among indexes x) && onChannel indexes l
+
+-- the calendar is replaced whole, and the slots since the start stay
+abbrev pub plainSet : Plain → List ℕ → PlainResult
+plainSet p entries =
+    record {
+      state =
+          record {
+            fresh = p .fresh;
+            urgent = p .urgent;
+            long = p .long;
+            next = p .next;
+            group = p .group;
+            calendar = entries;
+            slots = p .slots;
+            taken = p .taken;
+            history = p .history;
+          };
+      answer = Set;
+    }
+
 -- ---- the start, a call, and lists of calls
 
 abbrev pub plainStart : Start → Plain
@@ -256,11 +314,13 @@ plainStart S =
       long = [];
       next = 1;
       group = λ g. record { opened = true; asking = askingRow (λ k. 0) [] (S .m) 1; resolution = [] };
+      calendar = replicate 24 65535;
+      slots = 0;
       taken = [];
       history = [];
     }
 
--- a call refused changes nothing: 16, 9, 10; 17, 11, 7. 14 and 18 never come
+-- a call refused changes nothing: 16, 9, 10; 17, 11, 7; 20, 21. 14 and 18 never come
 abbrev pub plainCall : Start → Plain → Call → PlainResult
 plainCall S p (Offer x bytes) = plainOffer p bytes (stationFrom 0 (S .indexes) x)
 plainCall S p (Slot picks) =
@@ -268,6 +328,10 @@ plainCall S p (Slot picks) =
     (cond (inRange (S .m) picks) (cond (overflows (plainSettled p)) (plainRefuse p 7) (plainSlot S (λ k. getD picks k 1) p))
     (plainRefuse p 11))
     (plainRefuse p 17)
+plainCall S p (Calendar entries) =
+    cond (eqb (length entries) 24 && onChannel (S .indexes) entries)
+    (cond (among entries 65535) (plainSet p entries) (plainRefuse p 21))
+    (plainRefuse p 20)
 
 abbrev pub plainAfter : Start → Plain → List Call → Plain
 plainAfter S p [] = p

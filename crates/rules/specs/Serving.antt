@@ -1,8 +1,9 @@
--- Step 4, data (DTR), and the transmission queues' part of step 5 (paper 01, "One slot of group g", 4 and 5). Assumes nothing.
+-- Step 4, data (DTR), and the transmission queues' part of step 5 (paper 01, "One slot of group g", 4 and 5;
+-- paper 02, T-02). Assumes nothing.
 use mathlib.Core.Bool.{Bool, _&&_, cond}
 use Prim.Native.Nat.{ℕ, _-_}
 use lib.Dec.{eqb}
-use Rattle.rules.specs.Turns.{Turn, UrgentTurn, LongTurn, ResolveTurn, OpenTurn}
+use Rattle.rules.specs.Turns.{Turn, OwnedTurn, UrgentTurn, LongTurn, ResolveTurn, OpenTurn}
 use Rattle.rules.specs.StationLimits.{Condition, Free, Fresh, Asked, Resolving, Urgent, Long}
 use Rattle.rules.specs.Requesting.{requests, totalOf}
 
@@ -28,8 +29,10 @@ longSegment (Long f l t) = cond (eqb f 1) (t - (l - 1)) 0
 abbrev pub openSegment : Bool → ℕ → ℕ
 openSegment requesting total = cond (requesting && eqb total 1) 1 0
 
--- the segment that a station sends, 0 for none, from its condition after step 1
+-- the segment of its message that a station sends, 0 for none, from its condition after step 1. An owned slot carries no message: its
+-- owner's stream is apart
 unfoldable pub sends : Turn → ℕ → ℕ → Condition → ℕ
+sends (OwnedTurn x) r g k = 0
 sends UrgentTurn r g k = urgentSegment k
 sends LongTurn r g k = longSegment k
 sends ResolveTurn r g k = 0
@@ -54,6 +57,7 @@ longMoves (Urgent i) = Urgent i
 longMoves (Long f l t) = cond (eqb f 1) (cond (eqb l 1) Free (Long 1 (l - 1) t)) (Long (f - 1) l t)
 
 unfoldable pub moved : Turn → Condition → Condition
+moved (OwnedTurn x) k = k
 moved UrgentTurn k = urgentMoves k
 moved LongTurn k = longMoves k
 moved ResolveTurn k = k

@@ -17,6 +17,10 @@ pub struct Counters {
     pub resolution: [u16; 8],
     // whether each group's last slot was open (paper: Open)
     pub opened: [bool; 8],
+    // who owns the data slot at each of 24 positions: a station's index, or 65,535 for nobody (paper: the calendar)
+    pub calendar: [u16; 24],
+    // the position of the coming slot
+    pub position: u8,
 }
 
 // The lengths of the three queues that a slot of one group works on, while step 1 counts: wide enough for a sum that passes its limit.
@@ -35,8 +39,9 @@ pub struct StepOne {
     pub fits: bool,
 }
 
-// The turn of a slot: which queue its data slot serves.
+// The turn of a slot: whose stream its data slot carries, or which queue it serves.
 pub enum Turn {
+    Owned { owner: u16 },
     Urgent,
     Long,
     Resolve,
@@ -166,8 +171,26 @@ pub struct StationSlot {
     pub station: Station,
 }
 
-// What the stations of a channel send in a slot: the group's new row, the number of data senders, and a lone one's index and segment (0 and
-// 0 if there isn't just one).
+// The answer to setting a calendar: it went through, or the number of the refusal.
+pub enum CalendarAnswer {
+    Set,
+    Refused(u8),
+}
+
+// Setting a listener's calendar: the answer, and the record after (as it was if refused).
+pub struct CalendarSet {
+    pub answer: CalendarAnswer,
+    pub counters: Counters,
+}
+
+// Setting a station's calendar: the answer, and the record after (as it was if refused).
+pub struct StationSet {
+    pub answer: CalendarAnswer,
+    pub station: Station,
+}
+
+// What the stations of a channel send in a slot: the group's new row, the number of data senders, and a lone one's index and segment (0
+// and 0 if there isn't just one).
 pub struct Sent {
     pub minislots: [Minislot; 8],
     pub senders: u8,
@@ -175,11 +198,13 @@ pub struct Sent {
     pub segment: u8,
 }
 
-// The answer to a call on a channel: the number of the refusal; an offer's slot total; a slot's turn, its number of data senders, the index
-// and segment of a lone sender (0 and 0 if there isn't just one), and the slots delivered in the call.
+// The answer to a call on a channel: the number of the refusal; an offer's slot total; nothing more where a calendar was set; a slot's
+// turn, its number of data senders, the index and segment of a lone sender (0 and 0 if there isn't just one), and the slots delivered in
+// the call.
 pub enum Answer {
     Refused(u8),
     Taken(u8),
+    Set,
     Went {
         turn: Turn,
         senders: u8,

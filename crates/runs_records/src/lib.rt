@@ -1,10 +1,13 @@
-// Stations' records, wires and answers as numbers and as comma-separated lines, and records out of the lines of cases, for the programs
-// that check by running.
+// Stations' records, calendars, wires and answers as numbers and as comma-separated lines, and records out of the lines of cases, for the
+// programs that check by running.
 //
 // A record's numbers are m, n, the next group, H, N, eight RQ, eight Open marks (1 for yes), the index, and then the condition: 1 free; 2
 // fresh and its total; 3 asked, group, minislot, total; 4 resolving, group, place, total; 5 urgent and its place; 6 long, first, left,
-// total. Turns are numbered 1 urgent, 2 long, 3 resolve, 4 open.
+// total. Calendar and position are not among them: `position,P owned`, with a pair such as `,5:7` for each position that has an owner, is
+// written where they are asked for.
+use calendars::FREE;
 use rules::Answer;
+use rules::CalendarAnswer;
 use rules::Condition;
 use rules::Counters;
 use rules::StartAnswer;
@@ -17,8 +20,11 @@ use runs_cases::number;
 use runs_cases::number8;
 use runs_cases::number16;
 use runs_cases::which;
+use runs_cases::words;
+use runs_text::fields;
 use runs_text::form;
 use runs_text::text;
+use runs_text::word;
 use runs_text::worded;
 ghost use mathlib.Core.Path.{_≡_};
 ghost use Prim.Native.Nat.{_≤_};
@@ -31,40 +37,6 @@ pub struct Numbers {
 }
 
 // ---- as numbers
-
-pub fn turn_number(t: Turn) -> u64 {
-    match t {
-        Turn::Urgent => 1,
-        Turn::Long => 2,
-        Turn::Resolve => 3,
-        Turn::Open => 4,
-    }
-}
-
-// The answer to a call on a channel. Refused: 1 and the number. Taken: 2 and the slots. Went: 3, the turn, data senders, index, segment,
-// delivered.
-pub fn told(answer: Answer) -> [u64; 6]
-    ensures { λ r. ⌜ length r ≡ 6 ⌝ }
-{
-    match answer {
-        Answer::Refused(number) => [1, number as u64, 0, 0, 0, 0],
-        Answer::Taken(total) => [2, total as u64, 0, 0, 0, 0],
-        Answer::Went {
-            turn,
-            senders,
-            index,
-            segment,
-            delivered,
-        } => [
-            3,
-            turn_number(turn),
-            senders as u64,
-            index as u64,
-            segment as u64,
-            delivered as u64,
-        ],
-    }
-}
 
 fn condition_numbers(k: Condition) -> [u64; 4] {
     match k {
@@ -193,24 +165,83 @@ pub fn start_line(answer: StartAnswer) {
     }
 }
 
-// A slot that went through: its turn's number, and the other numbers of the answer.
-pub fn went_line(numbers: &[u64]) {
-    worded(b"went,@", b"urgent long resolve open ", numbers);
+// A turn by the word that a list has for it, the list being of urgent, long, resolve, open and owned; an owned one with its owner.
+pub fn turn_text(words: &[u8], turn: Turn) {
+    match turn {
+        Turn::Owned { owner } => {
+            let numbers = [5, owner as u64];
+            worded(b"@,#", words, &numbers);
+        }
+        Turn::Urgent => word(words, 1),
+        Turn::Long => word(words, 2),
+        Turn::Resolve => word(words, 3),
+        Turn::Open => word(words, 4),
+    }
+}
+
+// A slot that went through: its turn, and the other numbers of the answer.
+pub fn went_line(turn: Turn, numbers: &[u64]) {
+    text(b"went,");
+    turn_text(b"urgent long resolve open owned ", turn);
+    fields(numbers);
     text(b"\n");
 }
 
+// The answer to a calendar.
+pub fn set_line(answer: CalendarAnswer) {
+    match answer {
+        CalendarAnswer::Set => text(b"set\n"),
+        CalendarAnswer::Refused(number) => refused_line(number),
+    }
+}
+
 // The answer to a call on a channel.
-pub fn told_line(told: [u64; 6]) {
-    if told[0] == 3 {
-        went_line(&told[1..6]);
-    } else {
-        worded(b"@,#\n", b"refused taken ", &told[0..2]);
+pub fn answer_line(answer: Answer) {
+    match answer {
+        Answer::Refused(number) => refused_line(number),
+        Answer::Taken(total) => taken_line(total),
+        Answer::Set => text(b"set\n"),
+        Answer::Went {
+            turn,
+            senders,
+            index,
+            segment,
+            delivered,
+        } => {
+            let numbers = [
+                senders as u64,
+                index as u64,
+                segment as u64,
+                delivered as u64,
+            ];
+            went_line(turn, &numbers);
+        }
+    }
+}
+
+// A position and its owner; nothing if it is free.
+fn owner_text(position: usize, entry: u16) {
+    if entry != FREE {
+        let numbers = [position as u64, entry as u64];
+        form(b",#:#", &numbers);
+    }
+}
+
+// The position of the coming slot, and each position that has an owner with it.
+pub fn owned_text(c: Counters) {
+    let entries = c.calendar;
+    let position = [c.position as u64];
+    form(b"position,# owned", &position);
+    let mut p: usize = 0;
+    while p < 24 {
+        owner_text(p, entries[p]);
+        p += 1;
     }
 }
 
 // ---- out of the lines of cases
 
-// Counters out of the first 21 numbers of a group.
+// Counters out of the first 21 numbers of a group, with a calendar that has no owner, at its first position.
 pub fn counters_of(g: Group) -> Counters {
     let mut resolution = [0u16; 8];
     let mut opened = [true; 8];
@@ -228,7 +259,25 @@ pub fn counters_of(g: Group) -> Counters {
         long: number16(g, 5),
         resolution,
         opened,
+        calendar: [FREE; 24],
+        position: 0,
     }
+}
+
+// The 24 entries of a calendar out of a group.
+pub fn entries_of(g: Group) -> [u16; 24]
+    ensures { λ r. ⌜ length r ≡ 24 ⌝ }
+{
+    words(g, 1, 1)
+}
+
+// Counters with the position and the calendar of a line: a group that has the position, then one that has the entries.
+pub fn counters_at(c: Counters, line: &[u8], head: Group) -> Counters {
+    let mut c = c;
+    let entries = entries_of(group_at(line, head.next));
+    c.calendar = entries;
+    c.position = number8(head, 1);
+    c
 }
 
 // A condition out of its number and those that follow it.

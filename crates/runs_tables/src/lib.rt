@@ -66,7 +66,7 @@ pub fn started(count: usize, m: u8, n: u8, first: u8) -> LocalChannel {
     r.channel
 }
 
-// The next three say nothing of the answer, so that a program that only runs them carries no contract of a channel along.
+// The next four say nothing of the answer, so that a program that only runs them carries no contract of a channel along.
 
 pub fn begun(c: LocalChannel, m: u8, n: u8, indexes: &[u16]) -> LocalStarted {
     local_channel::start(c, m, n, indexes)
@@ -74,6 +74,10 @@ pub fn begun(c: LocalChannel, m: u8, n: u8, indexes: &[u16]) -> LocalStarted {
 
 pub fn offered(c: LocalChannel, index: u16, bytes: usize) -> LocalCalled {
     local_channel::offer(c, index, bytes)
+}
+
+pub fn calendared(c: LocalChannel, entries: [u16; 24]) -> LocalCalled {
+    local_channel::calendar(c, entries)
 }
 
 pub fn slotted(c: LocalChannel, picks: &[u8]) -> LocalCalled {

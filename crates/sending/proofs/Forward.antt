@@ -5,7 +5,7 @@ use mathlib.Core.Bool.{Bool, true, false, cond}
 use mathlib.Core.List.{List, [], _∷_, _++_, foldl, append-nil, append-assoc}
 use Prim.Native.Nat.{ℕ, _+_, _≤_, _<_}
 use native.Mathlib.Omega.{arith}
-use lib.Dec.{eqb, ltb}
+use lib.Dec.{eqb}
 use lib.ListN.{length, length-append}
 use borrow.Author.Tests.{lt-ltb}
 use Rattle.requests.specs.Together.{together}
@@ -14,7 +14,8 @@ use Rattle.rules.specs.declared.Sent.{Sent}
 use Rattle.rules.specs.declared.SlotAnswer.{SlotAnswer}
 use Rattle.rules.specs.declared.SlotAnswer.the-variants.{Went, Refused}
 use Rattle.rules.specs.declared.StationSlot.{StationSlot}
-use Rattle.channel_rules.specs.ChannelCalls.{newRow, DataSent, dataIn, dataSent, loneIndex, loneSegment, sentOf}
+use Rattle.rules.specs.declared.Turn.{Turn}
+use Rattle.channel_rules.specs.ChannelCalls.{speaks, newRow, DataSent, dataIn, dataSent, loneIndex, loneSegment, sentOf}
 use Rattle.channel_rules.proofs.Gathering.{InRow, written, row-more, data-more, lone-index-more, lone-segment-more}
 use Rattle.sending.specs.Gathered.{silence, oneMore, withData, gathered, gatheredBy}
 
@@ -36,7 +37,7 @@ data-few r = go (r .answer)
     only false x = omega arith
 
     go : (a : SlotAnswer) → length (dataIn r a) ≤ 1
-    go (Went turn minislot segment) = only (ltb 0 segment) _
+    go (Went turn minislot segment) = only (speaks turn (r .station .index) segment) _
     go (Refused n) = omega arith
 
 pub senders-few : (results : List StationSlot) → length (dataSent results) ≤ length results
@@ -60,9 +61,9 @@ module _ (done : List StationSlot) (r : StationSlot) (few : length done < 255) (
   unfolding oneMore
   counts = rw (lt-ltb (length (dataSent done)) 255 (omega (arith, senders-few done)))
 
-  with-data : (turn : _) (minislot segment : ℕ) → withData (r .station .index) segment (sentOf done) ≡ dataWith (Went turn minislot segment)
+  with-data : (turn : Turn) (minislot segment : ℕ) → withData turn (r .station .index) segment (sentOf done) ≡ dataWith (Went turn minislot segment)
   unfolding withData
-  with-data turn minislot segment = go (ltb 0 segment)
+  with-data turn minislot segment = go (speaks turn (r .station .index) segment)
     where
       x : DataSent
       x = record { index = r .station .index; segment = segment }

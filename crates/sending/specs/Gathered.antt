@@ -1,5 +1,5 @@
--- What the stations of a channel send in a slot, gathered one station after the other (paper 01, "One slot of group g", 3 and 4).
--- Assumes nothing.
+-- What the stations of a channel send in a slot, gathered one station after the other (paper 01, "One slot of group g", 3 and 4;
+-- paper 02, T-02). Assumes nothing.
 use mathlib.Core.Bool.{cond}
 use Prim.Native.Nat.{ℕ, _+_}
 use lib.Dec.{eqb, ltb}
@@ -10,7 +10,9 @@ use Rattle.rules.specs.declared.SlotAnswer.{SlotAnswer}
 use Rattle.rules.specs.declared.SlotAnswer.the-variants.{Went, Refused}
 use Rattle.rules.specs.declared.Station.{Station}
 use Rattle.rules.specs.declared.StationSlot.{StationSlot}
+use Rattle.rules.specs.declared.Turn.{Turn}
 use Rattle.rules.specs.Requesting.{totalOf}
+use Rattle.channel_rules.specs.ChannelCalls.{speaks}
 
 -- nobody has sent anything
 unfoldable pub silence : Sent
@@ -34,9 +36,9 @@ joinedBy index segment sent =
       segment = cond (eqb (sent .senders) 0) segment 0;
     }
 
--- a station's data segment, 0 for none
-unfoldable pub withData : ℕ → ℕ → Sent → Sent
-withData index segment sent = cond (ltb 0 segment) (joinedBy index segment sent) sent
+-- a station's data: the owner's stream in an owned slot, segment 0; else its segment, 0 for none
+unfoldable pub withData : Turn → ℕ → ℕ → Sent → Sent
+withData turn index segment sent = cond (speaks turn index segment) (joinedBy index segment sent) sent
 
 -- a station's request in its minislot, 0 for none
 abbrev pub withRequest : ℕ → Station → Sent → Sent
@@ -50,7 +52,7 @@ withRequest minislot s sent =
 
 -- a refused slot sends nothing
 abbrev pub gatheredBy : Sent → Station → SlotAnswer → Sent
-gatheredBy sent s (Went turn minislot segment) = withRequest minislot s (withData (s .index) segment sent)
+gatheredBy sent s (Went turn minislot segment) = withRequest minislot s (withData turn (s .index) segment sent)
 gatheredBy sent s (Refused n) = sent
 
 -- ONE STATION'S SLOT joins those before it

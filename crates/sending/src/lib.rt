@@ -7,8 +7,10 @@ use rules::Sent;
 use rules::SlotAnswer;
 use rules::Station;
 use rules::StationSlot;
+use rules::Turn;
 ghost use mathlib.Core.Path.{_≡_};
 ghost use Rattle.requests.specs.Together.{placed, carries};
+ghost use Rattle.channel_rules.specs.ChannelCalls.{speaks as speaksOf};
 ghost use Rattle.sending.specs.Gathered.{silence as silenceOf, stationRequest, oneMore, withData, gathered};
 
 // The most data senders that are counted.
@@ -47,11 +49,24 @@ fn one_more(senders: u8) -> u8
     }
 }
 
-// A station's data segment is sent; 0 for none. A lone sender is named as long as it is alone.
-fn add_data(index: u16, segment: u8, sent: Sent) -> Sent
-    ensures { λ r. ⌜ r ≡ withData index segment sent ⌝ }
+// Whether a station sends data: in an owned slot its owner alone, else whoever sends a segment of its message.
+fn speaks(turn: Turn, index: u16, segment: u8) -> bool
+    ensures { λ r. ⌜ r ≡ speaksOf turn index segment ⌝ }
 {
-    if segment < 1 {
+    match turn {
+        Turn::Owned { owner } => index == owner,
+        Turn::Urgent => 0 < segment,
+        Turn::Long => 0 < segment,
+        Turn::Resolve => 0 < segment,
+        Turn::Open => 0 < segment,
+    }
+}
+
+// A station's data joins, if it sends any: a stream as segment 0. A lone sender is named as long as it is alone.
+fn add_data(turn: Turn, index: u16, segment: u8, sent: Sent) -> Sent
+    ensures { λ r. ⌜ r ≡ withData turn index segment sent ⌝ }
+{
+    if !speaks(turn, index, segment) {
         return sent;
     }
     let minislots = sent.minislots;
@@ -79,11 +94,11 @@ pub fn gather(r: StationSlot, sent: Sent) -> Sent
     let s = r.station;
     match answer {
         SlotAnswer::Went {
+            turn,
             minislot,
             segment,
-            ..
         } => {
-            let data = add_data(s.index, segment, sent);
+            let data = add_data(turn, s.index, segment, sent);
             let row = data.minislots;
             Sent {
                 minislots: place_request(minislot, s, row),

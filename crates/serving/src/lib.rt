@@ -73,11 +73,13 @@ fn open_segment(requesting: bool, total: u8) -> u8
     0
 }
 
-// The segment that a message sends in a slot of group g, 0 for none, from its condition after step 1; r is the group's RQ then.
+// The segment that a message sends in a slot of group g, 0 for none, from its condition after step 1; r is the group's RQ then. In an
+// owned slot no message sends.
 pub fn sends(t: Turn, r: u32, g: u8, k: Condition) -> u8
     ensures { λ j. ⌜ j ≡ sendsOf t r g k ⌝ }
 {
     match t {
+        Turn::Owned { .. } => 0,
         Turn::Urgent => urgent_segment(k),
         Turn::Long => long_segment(k),
         Turn::Resolve => 0,

@@ -1,6 +1,7 @@
 // The lines that `show` of `rehearse` prints of a channel, written into a buffer. A line that does not fit is not written at all.
 use counter_lines::put_counters;
 use counter_lines::put_groups;
+use counter_lines::put_owners;
 use message_lines::put_messages;
 use rules::Counters;
 use rules::Station;
@@ -25,7 +26,8 @@ pub fn put_show(
     ensures reached { λ r. ⌜ r ≡ placeAfterLines (now (out .entry)) at (showLines call c (take count stations) wire) ⌝ }
 {
     let first = put_counters(out, at, call, c);
-    let second = put_groups(out, first, call, c);
-    let third = put_messages(out, second, call, stations, count);
-    put_wire(out, third, call, c.minislots, c.groups, wire)
+    let second = put_owners(out, first, call, c);
+    let third = put_groups(out, second, call, c);
+    let fourth = put_messages(out, third, call, stations, count);
+    put_wire(out, fourth, call, c.minislots, c.groups, wire)
 }

@@ -30,7 +30,7 @@ module _ {a b ra rb : List Bool} {x y : Bool} (e : a ≡ x ∷ ra) (f : b ≡ y 
 abbrev pub blank : Station
 blank =
     record {
-      counters = record { minislots = 0; groups = 0; next = 0; urgent = 0; long = 0; resolution = []; opened = [] };
+      counters = record { minislots = 0; groups = 0; next = 0; urgent = 0; long = 0; resolution = []; opened = []; calendar = []; position = 0 };
       index = 0;
       condition = Free;
     }

@@ -1,12 +1,14 @@
-// A clause of a sound table (paper 01, "The channel") as code: all stations share m, n, next group, counters and Open marks. And the
-// counters of a table, those of its first station.
+// A clause of a sound table (paper 01, "The channel"; paper 02, T-02) as code: all stations share m, n, next group, counters, Open marks,
+// calendar and position. And the counters of a table, those of its first station.
+use calendars::POSITIONS;
 use conditions::no_station;
 use drawing::MOST_GROUPS;
 use drawing::least;
 use rules::Counters;
 use rules::Station;
 ghost use mathlib.Core.Path.{_≡_};
-ghost use mathlib.Core.Bool.{Bool·beq};
+ghost use mathlib.Core.Bool.{_&&_, Bool·beq};
+ghost use lib.Dec.{eqb};
 ghost use lib.ListN.{take};
 ghost use Rattle.channel_rules.specs.Soundness.{sameNumbers, sameMarks, sameCounters, tableCounters, countersShared};
 
@@ -44,6 +46,32 @@ fn same_marks(a: [bool; 8], b: [bool; 8]) -> bool
     true
 }
 
+fn same_entries(a: [u16; 24], b: [u16; 24]) -> bool
+    ensures { λ r. ⌜ r ≡ sameNumbers a b ⌝ }
+{
+    let mut i: usize = 0;
+    while i < POSITIONS {
+        if a[i] != b[i] {
+            return false;
+        }
+        i += 1;
+    }
+    true
+}
+
+// The same calendar, and the same position in it.
+fn same_calendar(a: Counters, b: Counters) -> bool
+    ensures { λ r. ⌜ r ≡ (sameNumbers (a .calendar) (b .calendar) && eqb (a .position) (b .position)) ⌝ }
+{
+    let x = a.calendar;
+    let y = b.calendar;
+    if same_entries(x, y) {
+        a.position == b.position
+    } else {
+        false
+    }
+}
+
 fn same_counters(a: Counters, b: Counters) -> bool
     ensures { λ r. ⌜ r ≡ sameCounters a b ⌝ }
 {
@@ -69,7 +97,10 @@ fn same_counters(a: Counters, b: Counters) -> bool
     }
     let u = a.opened;
     let v = b.opened;
-    same_marks(u, v)
+    if !same_marks(u, v) {
+        return false;
+    }
+    same_calendar(a, b)
 }
 
 // The counters of a table: those of its first record, and those that stand for none where it has no record.

@@ -87,6 +87,8 @@ tableMade l =
       rq = λ g. getD (tableCounters l .resolution) (g - 1) 0;
       opened = λ g. getD (tableCounters l .opened) (g - 1) false;
       next = tableCounters l .next;
+      calendar = tableCounters l .calendar;
+      position = tableCounters l .position;
       condition = λ k. getD l k noStation .condition;
     }
 
@@ -150,6 +152,8 @@ module _ (stations : List Station) (wire : List WireRow) (some : 1 ≤ length st
         arrays = (ap (λ (c : Counters). length (c .resolution)) e ∙ w .0, ap (λ (c : Counters). length (c .opened)) e ∙ w .1);
         resolution = λ g l u. ap (λ (c : Counters). getD (c .resolution) (g - 1) 0) e;
         mark = λ g l u. ap (λ (c : Counters). getD (c .opened) (g - 1) false) e;
+        calendar = ap (λ (c : Counters). c .calendar) e;
+        position = ap (λ (c : Counters). c .position) e;
         condition = refl;
       }
 

@@ -30,13 +30,14 @@ use Rattle.rules.specs.Limits.{between, withinLimits}
 use Rattle.rules.specs.Hearing.{wordsOf, countsOf}
 use Rattle.rules.specs.Queueing.{placesBefore, placesAfter, immediateOf, placesOf, passes}
 use Rattle.rules.specs.declared.Turn.{Turn}
-use Rattle.rules.specs.declared.Turn.the-variants.{Urgent as UrgentTurn, Long as LongTurn, Resolve as ResolveTurn, Open as OpenTurn}
+use Rattle.rules.specs.declared.Turn.the-variants.{Owned as OwnedTurn, Urgent as UrgentTurn, Long as LongTurn, Resolve as ResolveTurn, Open as OpenTurn}
 use Rattle.rules.specs.Turns.{turnOf}
 use Rattle.rules.specs.Listening.{hasRow}
 use Rattle.rules.specs.declared.Condition.{Condition}
 use Rattle.rules.specs.declared.Condition.the-variants.{Free, Fresh, Asked, Resolving, Urgent, Long}
 use Rattle.rules.specs.StationLimits.{isTotal, conditionWithin, stationWithin}
 use Rattle.rules.specs.OwnHearing.{hearsItself}
+use Rattle.rules.specs.Calendars.{ownerOf}
 use Rattle.rules.specs.Requesting.{waitsIn, requests, requested, totalOf}
 use Rattle.rules.specs.Serving.{moved}
 use Rattle.rules.specs.Outcome.{outcomeBy, outcomeOf}
@@ -63,6 +64,7 @@ total-kept turn r g pick Free e = cc
 total-kept turn r g pick (Fresh t) e = rw e (go turn)
   where
     go : (turn : Turn) → totalOf (moved turn (Asked g pick t)) ≡ t
+    go (OwnedTurn x) = refl
     go UrgentTurn = refl
     go LongTurn = refl
     go ResolveTurn = refl
@@ -71,6 +73,7 @@ total-kept turn r g pick (Asked h j t) e = cc
 total-kept turn r g pick (Resolving h i t) e = let (a, b) = and-both (waitsIn r g h) (eqb i 1) e in rw (a, b) (go turn)
   where
     go : (turn : Turn) → totalOf (moved turn (Asked g pick t)) ≡ t
+    go (OwnedTurn x) = refl
     go UrgentTurn = refl
     go LongTurn = refl
     go ResolveTurn = refl
@@ -137,7 +140,7 @@ slot-fair s words counts pick = go (eqb (slotNumberOf s words counts pick) 0) re
       where
         asks : (b : Bool) → requesting s row ≡ b → 1 ≤ requestMinislot b pick → 1 ≤ totalOf (conditionAfter s row pick)
         asks true e lo =
-            rw (total-kept (turnOf (placesAfter (s .counters) row)) (placesAfter (s .counters) row .resolution) (s .counters .next) pick (settledOf (s .counters) row (s .condition)) e)
+            rw (total-kept (turnOf (ownerOf (s .counters)) (placesAfter (s .counters) row)) (placesAfter (s .counters) row .resolution) (s .counters .next) pick (settledOf (s .counters) row (s .condition)) e)
             (settled-total (s .counters) (placesAfter (s .counters) row .resolution) (s .counters .next) (immediateOf (s .counters) row) (placesOf (s .counters)) row (s .condition) (station-in s w .condition) e)
         asks false e lo = absurd (omega arith)
 

@@ -1,4 +1,5 @@
-// Indexes are distinct.
+// The indexes of a table, drawn out of it, and that they are distinct.
+use drawing::least;
 use places::distinct;
 use rules::Station;
 ghost use mathlib.Core.Path.{_≡_};
@@ -22,6 +23,13 @@ fn indexes(stations: [Station; 64], count: usize) -> [u16; 64]
         i += 1;
     }
     list
+}
+
+// The same of any count: where there are no more than 64, of all.
+pub fn indexes_of(stations: [Station; 64], count: usize) -> [u16; 64]
+    ensures { λ r. ⌜ r ≡ padded 64 0 (map indexIn (take count stations)) ⌝ }
+{
+    indexes(stations, least(count, 64))
 }
 
 pub(crate) fn indexes_distinct(stations: [Station; 64], count: usize) -> bool

@@ -1,6 +1,6 @@
-// The clauses of a sound table (paper 01, "The channel") on its stations alone, as code: every record within its limits, counters shared,
+// The clauses of a sound table (paper 01, "The channel") on its stations alone, as code: counters shared, every record within its limits,
 // and indexes distinct.
-mod indexes;
+pub mod indexes;
 mod records;
 
 use drawing::least;
@@ -12,15 +12,16 @@ ghost use mathlib.Core.Path.{_≡_};
 ghost use lib.ListN.{take};
 ghost use Rattle.sound_stations.specs.Stations.{stationsSound};
 
-// The clauses for the first `count` records, or for all 64 where there are no more, the cheap ones first.
+// The clauses for the first `count` records, or for all 64 where there are no more. That counters are shared comes first, so that their
+// limits are tested once.
 pub fn stations_sound(stations: [Station; 64], count: usize) -> bool
     ensures { λ r. ⌜ r ≡ stationsSound (take count stations) ⌝ }
 {
     let n = least(count, 64);
-    if !records_within(stations, n) {
+    if !counters_shared(stations, n) {
         return false;
     }
-    if !counters_shared(stations, n) {
+    if !records_within(stations, n) {
         return false;
     }
     indexes_distinct(stations, n)

@@ -1,22 +1,56 @@
-// Every record is within its limits.
-use conditions::within;
+// Every record is within its limits, on a table whose records share their counters: the counters' own limits are tested once, then each
+// record's index and condition.
+use conditions::condition_within;
+use conditions::is_index;
+use rules::Counters;
 use rules::Station;
+use sound_counters::table_counters;
 ghost use mathlib.Core.Path.{_≡_};
+ghost use mathlib.Core.Bool.{true};
 ghost use Prim.Native.Nat.{_≤_};
 ghost use lib.ListN.{take};
-ghost use Rattle.channel_rules.specs.Soundness.{recordsWithin};
+ghost use Rattle.listlaws.specs.Lists.{each};
+ghost use Rattle.channel_rules.specs.Soundness.{recordsWithin, countersShared};
+ghost use Rattle.sound_stations.specs.Stations.{besideWithin};
 
-pub(crate) fn records_within(stations: [Station; 64], count: usize) -> bool
+// A record's index and condition, under these counters.
+fn beside_within(shared: Counters, s: Station) -> bool
+    ensures { λ r. ⌜ r ≡ besideWithin shared s ⌝ }
+{
+    let k = s.condition;
+    if is_index(s.index) {
+        condition_within(shared, k)
+    } else {
+        false
+    }
+}
+
+// Those of each record.
+fn besides_within(stations: [Station; 64], count: usize, shared: Counters) -> bool
     requires { ⌜ count ≤ 64 ⌝ }
-    ensures { λ r. ⌜ r ≡ recordsWithin (take count stations) ⌝ }
+    ensures { λ r. ⌜ r ≡ each (besideWithin shared) (take count stations) ⌝ }
 {
     let mut i: usize = 0;
     while i < count {
         let s = stations[i];
-        if !within(s) {
+        if !beside_within(shared, s) {
             return false;
         }
         i += 1;
     }
     true
+}
+
+pub(crate) fn records_within(stations: [Station; 64], count: usize) -> bool
+    requires { ⌜ (count ≤ 64) × (countersShared (take count stations) ≡ true) ⌝ }
+    ensures { λ r. ⌜ r ≡ recordsWithin (take count stations) ⌝ }
+{
+    if count == 0 {
+        return true;
+    }
+    let shared = table_counters(stations, count);
+    if !counters::within(shared) {
+        return false;
+    }
+    besides_within(stations, count, shared)
 }

@@ -1,5 +1,5 @@
-// A sound table (paper 01, "The channel") as code, on a table and a wire by value: the clauses on stations, and those on queues and wire,
-// which go over the table's messages, drawn out once.
+// A sound table (paper 01, "The channel"; paper 02, T-02) as code, on a table and a wire by value: the clauses on stations, those on queues
+// and wire, which go over the table's messages, drawn out once, and that on the calendar's owners.
 mod messages;
 
 use drawing::least;
@@ -9,6 +9,7 @@ use rules::Station;
 use rules::TableMessage;
 use rules::WireRow;
 use sound_counters::table_counters;
+use sound_owners::entries_on;
 use sound_queues::long::long_sound;
 use sound_queues::urgent::urgent_sound;
 use sound_resolution::resolution_sound;
@@ -50,5 +51,10 @@ pub fn sound(stations: [Station; 64], count: usize, wire: [WireRow; 8]) -> bool
         return false;
     }
     let list = messages(stations, n);
-    messages_sound(list, n, table_counters(stations, n), wire)
+    let counters = table_counters(stations, n);
+    if !messages_sound(list, n, counters, wire) {
+        return false;
+    }
+    let entries = counters.calendar;
+    entries_on(stations, n, entries)
 }

@@ -1,20 +1,25 @@
-// The station (paper: box), by value: its start, and an offer of a message.
+// The station (paper: box), by value: its start, an offer of a message, and setting its calendar.
+use calendars::calendar_on;
+use calendars::entries_number;
 use conditions::is_index;
 use conditions::no_station;
 use conditions::within;
 use counters::in_ranges;
+use rules::CalendarAnswer;
 use rules::Condition;
 use rules::OfferAnswer;
 use rules::StartAnswer;
 use rules::Station;
 use rules::StationOffered;
+use rules::StationSet;
 use rules::StationStarted;
 use taking::taking;
 use taking::with_condition;
 ghost use mathlib.Core.Path.{_≡_};
 ghost use Rattle.rules.specs.StationCalls.{stationStartOf, offerOf, refusedStart, refusedOffer};
-ghost use Rattle.rules.specs.Numbers.{startTold, offerTold};
-ghost use Rattle.rules.specs.Answered.{stationStartToldOf, offerToldOf};
+ghost use Rattle.rules.specs.Settings.{stationCalendarOf, refusedSetting};
+ghost use Rattle.rules.specs.Numbers.{startTold, offerTold, calendarTold};
+ghost use Rattle.rules.specs.Answered.{stationStartToldOf, offerToldOf, stationCalendarToldOf};
 
 // ---- starting
 
@@ -59,8 +64,8 @@ fn refused_offer(s: Station, number: u8) -> StationOffered
     }
 }
 
-// Offers a station a message of this many bytes. 18: the record is outside its limits. 9: the station is not free. 10: 0 bytes or more than
-// 12,240. A refusal leaves the record as it was.
+// Offers a station a message of this many bytes. 18: the record is outside its limits. 9: the station is not free. 10: 0 bytes or more
+// than 12,240. A refusal leaves the record as it was.
 pub fn offer(s: Station, bytes: usize) -> StationOffered
     ensures left { λ r. ⌜ r ≡ offerOf s bytes ⌝ }
     ensures told { λ r. ⌜ offerTold (r .answer) ≡ offerToldOf s bytes ⌝ }
@@ -78,4 +83,34 @@ pub fn offer(s: Station, bytes: usize) -> StationOffered
         };
     }
     refused_offer(s, 18)
+}
+
+// ---- setting its calendar
+
+fn refused_calendar(s: Station, number: u8) -> StationSet
+    ensures { λ r. ⌜ r ≡ refusedSetting s number ⌝ }
+{
+    StationSet {
+        answer: CalendarAnswer::Refused(number),
+        station: s,
+    }
+}
+
+// Sets a station's calendar, and leaves its position. 18: the record is outside its limits. 20: an entry is neither free (65,535) nor an
+// index of 923 at most. 21: no entry is free. A refusal leaves the record as it was.
+pub fn set_calendar(s: Station, entries: [u16; 24]) -> StationSet
+    ensures left { λ r. ⌜ r ≡ stationCalendarOf s entries ⌝ }
+    ensures told { λ r. ⌜ calendarTold (r .answer) ≡ stationCalendarToldOf s entries ⌝ }
+{
+    if within(s) {
+        let number = entries_number(entries);
+        if number != 0 {
+            return refused_calendar(s, number);
+        }
+        return StationSet {
+            answer: CalendarAnswer::Set,
+            station: calendar_on(s, entries),
+        };
+    }
+    refused_calendar(s, 18)
 }

@@ -1,13 +1,15 @@
 // Every number of every call of a station, and a few of its lives, written out for comparison with a program that was made apart from this
 // one.
 //
-// The cases come from standard input, a line each, on the record that the line before left. A line `start`, `offer`, `slot` or `slot_at`
-// has the call's arguments (a slot's minislots as word and count in turn); it is written, then the answer, then a line `record` with the
-// record after the call: m, n, the next group, H, N, eight RQ, eight Open marks, the index and the condition. A line `given` makes a record
-// that no call made, of the same numbers (an Open mark is 1 for yes), the condition in a group of its own. `keep` keeps the record, and
+// The cases come from standard input, a line each, on the record that the line before left. A line `start`, `offer`, `slot`, `slot_at` or
+// `calendar` has the call's arguments (a slot's minislots as word and count in turn; a calendar's 24 entries); it is written, then the
+// answer, then a line `record` with the record after the call: m, n, the next group, H, N, eight RQ, eight Open marks, the index and the
+// condition; after a calendar also a line `position` with the position and the owners. An owned turn has the owner behind it. A line
+// `given` makes a record that no call made, of the same numbers (an Open mark is 1 for yes), the condition in a group of its own; a line
+// `position` gives the record a position and the entries of a calendar, and a line `show` writes them. `keep` keeps the record, and
 // `again` comes back to the one that was kept. A line `recording` has the minislots that `slot_at` takes its row from, word and count in
-// turn. A line `listener` starts a listener; `beside` is a `slot_at` that this listener hears too, and after the station's record come the
-// listener's turn and its counters.
+// turn. A line `listener` starts a listener; `beside` is a `slot_at` that this listener hears too, and `calendar_beside` a calendar that
+// it is given too: after what is written of the station come the listener's answer and its counters, and its position and owners.
 use libc::STDIN_FILENO;
 use rules::Counters;
 use rules::ListenAnswer;
@@ -25,13 +27,16 @@ use runs_cases::number16;
 use runs_cases::which;
 use runs_cases::words;
 use runs_records::condition_of;
+use runs_records::counters_at;
 use runs_records::counters_numbers;
 use runs_records::counters_of;
+use runs_records::entries_of;
+use runs_records::owned_text;
 use runs_records::record_line;
 use runs_records::refused_line;
+use runs_records::set_line;
 use runs_records::start_line;
 use runs_records::taken_line;
-use runs_records::turn_number;
 use runs_records::went_line;
 use runs_text::form;
 use runs_text::text;
@@ -70,8 +75,8 @@ fn slot_line(answer: SlotAnswer) {
             minislot,
             segment,
         } => {
-            let numbers = [turn_number(turn), minislot as u64, segment as u64];
-            went_line(&numbers);
+            let numbers = [minislot as u64, segment as u64];
+            went_line(turn, &numbers);
         }
         SlotAnswer::Refused(number) => refused_line(number),
     }
@@ -100,14 +105,40 @@ fn slot_at(s: Station, recording: Group, place: usize, pick: u8) -> Station {
     r.station
 }
 
-// The record after a call: 1 a start, 2 an offer, 3 a slot, 4 or 5 a slot of the recording.
+fn owned_line(c: Counters) {
+    owned_text(c);
+    text(b"\n");
+}
+
+fn calendar(s: Station, head: Group) -> Station {
+    let r = station::set_calendar(s, entries_of(head));
+    let answer = r.answer;
+    set_line(answer);
+    r.station
+}
+
+// The record after a call: 1 a start, 2 an offer, 3 a slot, 4 a calendar, 5 or 6 a slot of the recording, 7 a calendar.
 fn called(s: Station, recording: Group, call: u64, head: Group) -> Station {
     let first = number(head, 1) as usize;
     match call {
         1 => start(head),
         2 => offer(s, first),
         3 => slot(s, head),
+        4 => calendar(s, head),
+        7 => calendar(s, head),
         _ => slot_at(s, recording, first, number8(head, 2)),
+    }
+}
+
+// The record after a call, as it is written.
+fn written(s: Station, call: u64) {
+    let c = s.counters;
+    record_line(s);
+    if call == 4 {
+        owned_line(c);
+    }
+    if call == 7 {
+        owned_line(c);
     }
 }
 
@@ -136,13 +167,31 @@ fn listen_at(c: Counters, recording: Group, place: usize) -> Counters {
     let r = listening::listen_at(c, &words[0..end], &counts[0..end], place);
     let answer = r.answer;
     match answer {
-        ListenAnswer::Went(turn) => {
-            let numbers = [turn_number(turn)];
-            went_line(&numbers);
-        }
+        ListenAnswer::Went(turn) => went_line(turn, &[]),
         ListenAnswer::Refused(number) => refused_line(number),
     }
     r.counters
+}
+
+fn listener_calendar(c: Counters, head: Group) -> Counters {
+    let r = listener::set_calendar(c, entries_of(head));
+    let answer = r.answer;
+    set_line(answer);
+    r.counters
+}
+
+// The listener's record after its part of a line, and what is written of it: 6 a slot, 7 a calendar, 8 its start.
+fn heard(c: Counters, recording: Group, kind: u64, head: Group) -> Counters {
+    let after = match kind {
+        6 => listen_at(c, recording, number(head, 1) as usize),
+        7 => listener_calendar(c, head),
+        _ => listener_start(head),
+    };
+    counters_line(after);
+    if kind == 7 {
+        owned_line(after);
+    }
+    after
 }
 
 // ---- the cases
@@ -156,7 +205,17 @@ fn given(line: &[u8], head: Group) -> Station {
     }
 }
 
-// A call: its line, the answer and the record after; 5 is heard by the listener too, and 6 starts one.
+// The record with the position and the calendar of a line `position`.
+fn station_at(s: Station, line: &[u8], head: Group) -> Station {
+    let mut s = s;
+    let c = s.counters;
+    let after = counters_at(c, line, head);
+    owned_line(after);
+    s.counters = after;
+    s
+}
+
+// A call: its line, the answer and the record after; 6 and 7 are the listener's too, and 8 starts one.
 fn call(r: Records, line: &[u8], kind: u64, head: Group) -> Records {
     let mut r = r;
     let last = r.last;
@@ -164,39 +223,39 @@ fn call(r: Records, line: &[u8], kind: u64, head: Group) -> Records {
     let recording = r.recording;
     text(line);
     text(b"\n");
-    if kind < 6 {
+    if kind < 8 {
         let s = called(last, recording, kind, head);
-        record_line(s);
+        written(s, kind);
         r.last = s;
     }
-    if kind < 5 {
+    if kind < 6 {
         return r;
     }
-    let c = if kind == 5 {
-        listen_at(beside, recording, number(head, 1) as usize)
-    } else {
-        listener_start(head)
-    };
-    counters_line(c);
-    r.beside = c;
+    r.beside = heard(beside, recording, kind, head);
     r
 }
 
-// A line that is no call: 7 keeps the record, 8 comes back to the one that was kept, 9 gives one, 10 has a recording.
+// A line that is no call: 9 keeps the record, 10 comes back to the one that was kept, 11 gives one, 12 has a recording, 13 gives the
+// record a position and a calendar, 14 writes them.
 fn set(r: Records, line: &[u8], kind: u64, head: Group) -> Records {
     let mut r = r;
     let last = r.last;
     let kept = r.kept;
     match kind {
-        7 => r.kept = last,
-        8 => r.last = kept,
-        9 => {
+        9 => r.kept = last,
+        10 => r.last = kept,
+        11 => {
             let s = given(line, head);
             text(b"given\n");
             record_line(s);
             r.last = s;
         }
-        _ => r.recording = head,
+        12 => r.recording = head,
+        13 => r.last = station_at(last, line, head),
+        _ => {
+            let c = last.counters;
+            owned_line(c);
+        }
     }
     r
 }
@@ -207,12 +266,12 @@ fn case(r: Records, line: &[u8]) -> Records {
     let kind = which(
         line,
         0,
-        b"start offer slot slot_at beside listener keep again given recording ",
+        b"start offer slot calendar slot_at beside calendar_beside listener keep again given recording position show ",
     );
     if kind == 0 {
         return r;
     }
-    if kind < 7 {
+    if kind < 9 {
         return call(r, line, kind, head);
     }
     set(r, line, kind, head)

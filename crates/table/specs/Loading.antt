@@ -12,7 +12,18 @@ use Rattle.table.specs.declared.Loaded.{Loaded}
 -- what a read past the end of a list of stations gives, by the borrow checker's own default, in which an array is `[]`
 abbrev pub absent : Station
 absent = record {
-  counters = record { minislots = 0; groups = 0; next = 0; urgent = 0; long = 0; resolution = []; opened = [] };
+  counters =
+      record {
+        minislots = 0;
+        groups = 0;
+        next = 0;
+        urgent = 0;
+        long = 0;
+        resolution = [];
+        opened = [];
+        calendar = [];
+        position = 0;
+      };
   index = 0;
   condition = Free;
 }

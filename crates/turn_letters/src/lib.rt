@@ -7,6 +7,7 @@ pub fn letter(turn: Turn) -> u8
     ensures { λ r. ⌜ r ≡ letterOf turn ⌝ }
 {
     match turn {
+        Turn::Owned { .. } => b'w',
         Turn::Urgent => b'u',
         Turn::Long => b'l',
         Turn::Resolve => b'r',

@@ -1,14 +1,14 @@
 -- `put_answer` puts the form of each answer, which is its line. Assumes nothing.
 use borrow.Author.Needs.{needs}
-use Rattle.answer_lines.proofs.AnswerForms.{refused-form, offer-form}
+use Rattle.answer_lines.proofs.AnswerForms.{refused-form, offer-form, calendar-form}
 use Rattle.answer_lines.proofs.put_answer.Statement.{statement}
 use Rattle.answer_lines.proofs.put_answer.Tie as tie
 
 enum-known-answer : tie.Need-enum-known-answer
 enum-known-answer c = search needs
 
-cast-t19 : tie.Need-cast-t19
-cast-t19 c = search needs
+cast-t21 : tie.Need-cast-t21
+cast-t21 c = search needs
 
 slice-aggregate-put-form : tie.Need-slice-aggregate-put-form
 slice-aggregate-put-form c = search needs
@@ -22,8 +22,8 @@ put-form-requires c κs = search needs
 enum-known-answer-2 : tie.Need-enum-known-answer-2
 enum-known-answer-2 c = search needs
 
-cast-t26 : tie.Need-cast-t26
-cast-t26 c = search needs
+cast-t28 : tie.Need-cast-t28
+cast-t28 c = search needs
 
 slice-aggregate-put-form-3 : tie.Need-slice-aggregate-put-form-3
 slice-aggregate-put-form-3 c = search needs
@@ -33,6 +33,18 @@ slice-aggregate-put-form-4 c = search needs
 
 put-form-requires-2 : tie.Need-put-form-requires-2
 put-form-requires-2 c κs = search needs
+
+enum-told : tie.Need-enum-told
+enum-told c = search needs
+
+slice-aggregate-put-form-5 : tie.Need-slice-aggregate-put-form-5
+slice-aggregate-put-form-5 c = search needs
+
+slice-aggregate-put-form-6 : tie.Need-slice-aggregate-put-form-6
+slice-aggregate-put-form-6 c = search needs
+
+put-form-requires-3 : tie.Need-put-form-requires-3
+put-form-requires-3 c κs = search needs
 
 enum-known-answer-3 : tie.Need-enum-known-answer-3
 enum-known-answer-3 c = search needs
@@ -60,22 +72,34 @@ same-length-3 : tie.Need-same-length-3
 same-length-3 c = search needs
 
 returns-3 : tie.Need-returns-3
-returns-3 c = rw (c .before .before .before .before .before .answer3 .given .1) (c .before .before .put-slot .ensures)
+returns-3 c =
+    let a = c .before .before .before .before .before .before .before .before .before .args in
+    rw (c .before .before .before .before .before .before .enum-told .given .1) (rw (calendar-form (a .call) (a .group) (a .c)) at (c .before .before .put-form3 .ensures))
+
+same-length-4 : tie.Need-same-length-4
+same-length-4 c = search needs
+
+returns-4 : tie.Need-returns-4
+returns-4 c = rw (c .before .before .before .before .before .answer3 .given .1) (c .before .before .put-slot .ensures)
 
 pub put-answer-spec : {M : Type 1} → statement M
 put-answer-spec =
     tie.close
     (tie.spec
     enum-known-answer
-    cast-t19
+    cast-t21
     slice-aggregate-put-form
     slice-aggregate-put-form-2
     put-form-requires
     enum-known-answer-2
-    cast-t26
+    cast-t28
     slice-aggregate-put-form-3
     slice-aggregate-put-form-4
     put-form-requires-2
+    enum-told
+    slice-aggregate-put-form-5
+    slice-aggregate-put-form-6
+    put-form-requires-3
     enum-known-answer-3
     put-slot-requires
     same-length
@@ -83,4 +107,6 @@ put-answer-spec =
     same-length-2
     returns-2
     same-length-3
-    returns-3)
+    returns-3
+    same-length-4
+    returns-4)

@@ -29,11 +29,11 @@ returns-2 c =
       sym (c .before .begins-with2 .ensures) ∙ c .if2 .taken,
     )
 
-slice-aggregate-is-word : tie.Need-slice-aggregate-is-word
-slice-aggregate-is-word c = search needs
+slice-aggregate-begins-with-3 : tie.Need-slice-aggregate-begins-with-3
+slice-aggregate-begins-with-3 c = search needs
 
-is-word-requires : tie.Need-is-word-requires
-is-word-requires c κs = search needs
+begins-with-requires-3 : tie.Need-begins-with-requires-3
+begins-with-requires-3 c κs = search needs
 
 returns-3 : tie.Need-returns-3
 unfolding kindOf
@@ -41,7 +41,23 @@ returns-3 c =
     rw (
       sym (c .before .before .before .before .before .before .before .begins-with .ensures) ∙ c .before .before .before .before .before .before .if1 .left,
       sym (c .before .before .before .before .begins-with2 .ensures) ∙ c .before .before .before .if2 .left,
-      sym (c .before .is-word .ensures) ∙ c .if3 .taken,
+      sym (c .before .begins-with3 .ensures) ∙ c .if3 .taken,
+    )
+
+slice-aggregate-is-word : tie.Need-slice-aggregate-is-word
+slice-aggregate-is-word c = search needs
+
+is-word-requires : tie.Need-is-word-requires
+is-word-requires c κs = search needs
+
+returns-4 : tie.Need-returns-4
+unfolding kindOf
+returns-4 c =
+    rw (
+      sym (c .before .before .before .before .before .before .before .before .before .before .begins-with .ensures) ∙ c .before .before .before .before .before .before .before .before .before .if1 .left,
+      sym (c .before .before .before .before .before .before .before .begins-with2 .ensures) ∙ c .before .before .before .before .before .before .if2 .left,
+      sym (c .before .before .before .before .begins-with3 .ensures) ∙ c .before .before .before .if3 .left,
+      sym (c .before .is-word .ensures) ∙ c .if4 .taken,
     )
 
 slice-aggregate-is-word-2 : tie.Need-slice-aggregate-is-word-2
@@ -50,24 +66,26 @@ slice-aggregate-is-word-2 c = search needs
 is-word-requires-2 : tie.Need-is-word-requires-2
 is-word-requires-2 c κs = search needs
 
-returns-4 : tie.Need-returns-4
-unfolding kindOf
-returns-4 c =
-    rw (
-      sym (c .before .before .before .before .before .before .before .before .before .before .begins-with .ensures) ∙ c .before .before .before .before .before .before .before .before .before .if1 .left,
-      sym (c .before .before .before .before .before .before .before .begins-with2 .ensures) ∙ c .before .before .before .before .before .before .if2 .left,
-      sym (c .before .before .before .before .is-word .ensures) ∙ c .before .before .before .if3 .left,
-      sym (c .before .is-word2 .ensures) ∙ c .if4 .taken,
-    )
-
 returns-5 : tie.Need-returns-5
 unfolding kindOf
 returns-5 c =
     rw (
-      sym (c .before .before .before .before .before .before .before .before .before .before .begins-with .ensures) ∙ c .before .before .before .before .before .before .before .before .before .if1 .left,
-      sym (c .before .before .before .before .before .before .before .begins-with2 .ensures) ∙ c .before .before .before .before .before .before .if2 .left,
-      sym (c .before .before .before .before .is-word .ensures) ∙ c .before .before .before .if3 .left,
-      sym (c .before .is-word2 .ensures) ∙ c .if4 .left,
+      sym (c .before .before .before .before .before .before .before .before .before .before .before .before .before .begins-with .ensures) ∙ c .before .before .before .before .before .before .before .before .before .before .before .before .if1 .left,
+      sym (c .before .before .before .before .before .before .before .before .before .before .begins-with2 .ensures) ∙ c .before .before .before .before .before .before .before .before .before .if2 .left,
+      sym (c .before .before .before .before .before .before .before .begins-with3 .ensures) ∙ c .before .before .before .before .before .before .if3 .left,
+      sym (c .before .before .before .before .is-word .ensures) ∙ c .before .before .before .if4 .left,
+      sym (c .before .is-word2 .ensures) ∙ c .if5 .taken,
+    )
+
+returns-6 : tie.Need-returns-6
+unfolding kindOf
+returns-6 c =
+    rw (
+      sym (c .before .before .before .before .before .before .before .before .before .before .before .before .before .begins-with .ensures) ∙ c .before .before .before .before .before .before .before .before .before .before .before .before .if1 .left,
+      sym (c .before .before .before .before .before .before .before .before .before .before .begins-with2 .ensures) ∙ c .before .before .before .before .before .before .before .before .before .if2 .left,
+      sym (c .before .before .before .before .before .before .before .begins-with3 .ensures) ∙ c .before .before .before .before .before .before .if3 .left,
+      sym (c .before .before .before .before .is-word .ensures) ∙ c .before .before .before .if4 .left,
+      sym (c .before .is-word2 .ensures) ∙ c .if5 .left,
     )
 
 pub kind-of-spec : {M : Type 1} → statement M
@@ -80,10 +98,13 @@ kind-of-spec =
     slice-aggregate-begins-with-2
     begins-with-requires-2
     returns-2
+    slice-aggregate-begins-with-3
+    begins-with-requires-3
+    returns-3
     slice-aggregate-is-word
     is-word-requires
-    returns-3
+    returns-4
     slice-aggregate-is-word-2
     is-word-requires-2
-    returns-4
-    returns-5)
+    returns-5
+    returns-6)

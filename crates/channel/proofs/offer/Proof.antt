@@ -41,7 +41,7 @@ use denote.Triple.Walked.{says, Stays, stay-slice, stay-none, walkOf, Walks, end
 use Rattle.rules.specs.declared.Station.{Station}
 use Rattle.rules.specs.declared.WireRow.{WireRow}
 use Rattle.calls.specs.declared.CallReply.{CallReply}
-use Rattle.offers.specs.declared.Offered.{Offered}
+use Rattle.calls.specs.declared.Decided.{Decided}
 use Rattle.table.specs.Loading.{loadOf}
 use Rattle.calls.specs.ByValue.{channelOf}
 use Rattle.offers.specs.Offering.{offeredOf}
@@ -73,7 +73,7 @@ use Rattle.channel.proofs.offer.Code.Mir as mir
 use Rattle.table.proofs.DataKinds.{ty, vals, of-uint}
 use Rattle.table.proofs.Returned.{owned-of, calls-value}
 use Rattle.table.proofs.Values.{station, loaded}
-use Rattle.channel.proofs.Values.{called, offered, wire, offered-loaded, offered-reply}
+use Rattle.channel.proofs.Values.{called, decided, wire, decided-loaded, decided-reply}
 
 abbrev R : RattleType
 R = station .R
@@ -110,7 +110,7 @@ fn = record {
   lifetimes = 1;
   outlives = [];
   params = 4;
-  locals = local (ty called) valueLocal ∷ local slice valueLocal ∷ local (ty wire) valueLocal ∷ local half valueLocal ∷ local word valueLocal ∷ local (ty loaded) valueLocal ∷ local (ty offered) valueLocal ∷ local ref valueLocal ∷ local slice′ valueLocal ∷ local tyUnit valueLocal ∷ local ref-mut valueLocal ∷ local slice-mut valueLocal ∷ [];
+  locals = local (ty called) valueLocal ∷ local slice valueLocal ∷ local (ty wire) valueLocal ∷ local half valueLocal ∷ local word valueLocal ∷ local (ty loaded) valueLocal ∷ local (ty decided) valueLocal ∷ local ref valueLocal ∷ local slice′ valueLocal ∷ local tyUnit valueLocal ∷ local ref-mut valueLocal ∷ local slice-mut valueLocal ∷ [];
   body = mir.t-1;
 }
 
@@ -131,7 +131,7 @@ module _ {M : Type 1} (𝓤 : URA M) (H : Heap 𝓤) (A : Atoms 𝓤) (W : Given
   abbrev mach : List Val × (List Val × (List Val × (List Val × Unit {0})))
   mach = (sliceVal (b, o) (length ys) ∷ [], (vals wire w, (vint w16 i ∷ [], (vint w64 n ∷ [], tt))))
 
-  abbrev d : Offered
+  abbrev d : Decided
   d = offeredOf (loadOf ys .stations) (loadOf ys .count) w i n
 
   abbrev zs : List Station
@@ -173,20 +173,20 @@ module _ {M : Type 1} (𝓤 : URA M) (H : Heap 𝓤) (A : Atoms 𝓤) (W : Given
       -- _6 = place_offer(_5, wire, index, bytes)
       calls-value ! (fmOf 𝓤 H (W .laws) 𝓣) known-place (use-offer 𝓤 H A mem run W (loadOf ys) w i n gl gw i-fits n-fits)
       (and-then ! (load ! (from ! (stop !)) (look ! 14 refl)) (and-then ! (load ! (from ! (stop !)) (look ! 20 refl)) (and-then ! (load ! (from ! (stop !)) (look ! 18 refl)) (and-then ! (load ! (from ! (stop !)) (look ! 16 refl)) (no-more !))))) (λ gd.
-      land ! (from ! (stop !)) (init ! 11 refl (offered .typed 𝓤 H A W d _ gd)) $
+      land ! (from ! (stop !)) (init ! 11 refl (decided .typed 𝓤 H A W d _ gd)) $
       -- store(table, _6.loaded)
       assigns ! (addr ! (from ! (fld ! refl (hop ! (look-in ! 21 (sub ! 0 refl (whole !))) (stop !))))) (from ! (stop !)) (init ! 3 refl (tt, tt)) $
       assigns ! (agg ! (and-then ! (load ! (from ! (stop !)) (look ! 3 refl)) (and-then ! (load ! (from ! (fld ! refl (stop !))) (look-in ! 21 (sub ! 1 refl (whole !)))) (no-more !)))) (from ! (stop !)) (init ! 1 refl (tt, (tt, (record { fits = room .0 }, tt)))) $
-      calls-mut ! (fmOf 𝓤 H (W .laws) 𝓣) known-store (loan-store 𝓤 H A mem run b o ys (d .loaded) W (offered-loaded d gd)) room
+      calls-mut ! (fmOf 𝓤 H (W .laws) 𝓣) known-store (loan-store 𝓤 H A mem run b o ys (d .loaded) W (decided-loaded d gd)) room
       (λ ν δ. and-then ! (load ! (from ! (stop !)) (look ! 2 refl)) (and-then ! (load ! (from ! (fld ! refl (stop !))) (look-in ! 12 (sub ! 0 refl (whole !)))) (no-more !))) (λ _.
       land ! (from ! (stop !)) (init ! 5 refl (tt, tt)) $
       -- _0 = _6.reply
-      assigns ! (of-opd ! (load ! (from ! (fld ! refl (stop !))) (look-in ! 11 (sub ! 1 refl (whole !))))) (from ! (stop !)) (init ! 23 refl (called .typed 𝓤 H A W (d .reply) _ (offered-reply d gd))) $
+      assigns ! (of-opd ! (load ! (from ! (fld ! refl (stop !))) (look-in ! 11 (sub ! 1 refl (whole !))))) (from ! (stop !)) (init ! 23 refl (called .typed 𝓤 H A W (d .reply) _ (decided-reply d gd))) $
       -- the borrow is closed
       move ! (0 ∷ 25 ∷ 26 ∷ 27 ∷ []) $ closes-slice ! tt R ys zs len b o $
       returns ! (look ! 25 refl) $ forget ! 3 refl $ forget ! 5 refl $ forget ! 7 refl $ forget ! 9 refl $ forget ! 11 refl $ forget ! 13 refl $ forget ! 15 refl $ forget ! 17 refl $ forget ! 19 refl $ forget ! 21 refl $ forget ! 23 refl $ forget ! 25 refl $
       move ! (25 ∷ 26 ∷ []) $ free1 ! $ move ! (23 ∷ 24 ∷ []) $ free1 ! $ move ! (21 ∷ 22 ∷ []) $ free1 ! $ move ! (19 ∷ 20 ∷ []) $ free1 ! $ move ! (17 ∷ 18 ∷ []) $ free1 ! $ move ! (15 ∷ 16 ∷ []) $ free1 ! $ move ! (13 ∷ 14 ∷ []) $ free1 ! $ move ! (11 ∷ 12 ∷ []) $ free1 ! $ move ! (9 ∷ 10 ∷ []) $ free1 ! $ move ! (7 ∷ 8 ∷ []) $ free1 ! $ move ! (5 ∷ 6 ∷ []) $ free1 ! $ move ! (3 ∷ 4 ∷ []) $ free1 ! $ free0 ! $
-      keep ! (0 ∷ 1 ∷ 2 ∷ []) $ by ! (exits (d .reply) refl (offered-reply d gd)))))))))))))))))
+      keep ! (0 ∷ 1 ∷ 2 ∷ []) $ by ! (exits (d .reply) refl (decided-reply d gd)))))))))))))))))
 
 module _ {M : Type 1} (𝓤 : URA M) (H : Heap 𝓤) (A : Atoms 𝓤) (W : Given 𝓤 H A) (mem : Memory → SProp 𝓤) (run : Routine → Fun 𝓤) where
   offer-walks : (𝓣 : Tables 𝓤 H) → Triple 𝓤 (𝓣 .C #table·load) (Load 𝓤 H A mem run) → Triple 𝓤 (𝓣 .C #offers·place-offer) (PlaceOffer 𝓤 H A mem run) → Triple 𝓤 (𝓣 .C #table·store) (Store 𝓤 H A mem run)

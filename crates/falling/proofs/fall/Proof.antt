@@ -15,6 +15,9 @@ cast-n c = omega (arith, none-passes _ (c .before .before .pre .1))
 cast-r : tie.Need-cast-r
 cast-r c = omega (arith, none-passes _ (c .before .before .before .pre .1))
 
+coming-requires : tie.Need-coming-requires
+coming-requires c κs = search needs
+
 turn-requires : tie.Need-turn-requires
 turn-requires c κs = search needs
 
@@ -48,16 +51,21 @@ urgent-falls-requires c κs = search needs
 long-falls-requires : tie.Need-long-falls-requires
 long-falls-requires c κs = search needs
 
+next-position-requires : tie.Need-next-position-requires
+next-position-requires c κs = search needs
+
 returns : tie.Need-returns
 unfolding fallen
 returns c =
     rw (
-      c .before .before .next-group .ensures,
-      c .before .urgent-falls .ensures,
-      c .long-falls .ensures,
-      c .before .before .before .before .less-one .ensures,
-      c .before .before .before .is-open .ensures,
-      c .before .before .before .before .before .before .before .before .turn .ensures,
+      c .next-position .ensures,
+      c .before .long-falls .ensures,
+      c .before .before .urgent-falls .ensures,
+      c .before .before .before .next-group .ensures,
+      c .before .before .before .before .is-open .ensures,
+      c .before .before .before .before .before .less-one .ensures,
+      c .before .before .before .before .before .before .before .before .before .before .turn .ensures,
+      c .before .before .before .before .before .before .before .before .before .before .before .coming .ensures,
     )
 
 pub fall-spec : {M : Type 1} → statement M
@@ -67,6 +75,7 @@ fall-spec =
     cast-h
     cast-n
     cast-r
+    coming-requires
     turn-requires
     sub-g
     cast-g
@@ -78,4 +87,5 @@ fall-spec =
     next-group-requires
     urgent-falls-requires
     long-falls-requires
+    next-position-requires
     returns)

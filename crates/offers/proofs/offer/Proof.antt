@@ -12,14 +12,14 @@ use Rattle.offers.proofs.offer.Tie as tie
 offer-number-requires : tie.Need-offer-number-requires
 offer-number-requires c κs = search needs
 
-refuse-offer-requires : tie.Need-refuse-offer-requires
-refuse-offer-requires c κs = search needs
+decline-requires : tie.Need-decline-requires
+decline-requires c κs = search needs
 
 returns : tie.Need-returns
 unfolding offeredOf
 returns c =
     let k = c .before .before .offer-number .result in
-    c .refuse-offer .ensures ∙ rw (← c .before .before .offer-number .ensures, ne-eqb k 0 (c .before .if1 .taken))
+    c .decline .ensures ∙ rw (← c .before .before .offer-number .ensures, ne-eqb k 0 (c .before .if1 .taken))
 
 position-of-requires : tie.Need-position-of-requires
 position-of-requires c κs = search needs
@@ -47,7 +47,7 @@ offer-spec =
     tie.close
     (tie.spec
     offer-number-requires
-    refuse-offer-requires
+    decline-requires
     returns
     position-of-requires
     take-message-requires

@@ -5,7 +5,7 @@ use native.Mathlib.Omega.{arith}
 use borrow.Author.Needs.{needs}
 use lib.ListN.{length, drop, take, length-take}
 use lib.Seq.{getD-take}
-use Rattle.channel_rules.specs.ChannelCalls.{positionOf}
+use Rattle.channel_rules.specs.Soundness.{positionOf}
 use Rattle.table.specs.Loading.{absent}
 use Rattle.positions.proofs.Steps.{position-found, position-goes, position-none}
 use Rattle.positions.proofs.position_of.Statement.{statement}

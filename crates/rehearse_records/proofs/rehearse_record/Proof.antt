@@ -41,11 +41,17 @@ bare-slot-requires c κs = search needs
 enum-told-4 : tie.Need-enum-told-4
 enum-told-4 c = search needs
 
-show-record-requires : tie.Need-show-record-requires
-show-record-requires c κs = search needs
+calendar-record-requires : tie.Need-calendar-record-requires
+calendar-record-requires c κs = search needs
 
 enum-told-5 : tie.Need-enum-told-5
 enum-told-5 c = search needs
+
+show-record-requires : tie.Need-show-record-requires
+show-record-requires c κs = search needs
+
+enum-told-6 : tie.Need-enum-told-6
+enum-told-6 c = search needs
 
 end-with-requires : tie.Need-end-with-requires
 end-with-requires c κs = search needs
@@ -84,7 +90,7 @@ returns-5 : tie.Need-returns-5
 returns-5 c =
     let a = c .before .before .before .before .before .before .before .before .before .before .before .args in
     let kind = sym (c .before .before .before .before .before .before .kind-of .ensures) ∙ c .before .before .before .before .enum-told4 .given .1 in
-    as-result (a .r) (a .next) (a .out .now) (a .at) (later-calls (a .r) (a .bytes .now) (c .before .before .before .before .before .before .before .if1 .left) kind) (c .before .before .show-record .ensures)
+    as-result (a .r) (a .next) (a .out .now) (a .at) (later-calls (a .r) (a .bytes .now) (c .before .before .before .before .before .before .before .if1 .left) kind) (c .before .before .calendar-record .ensures)
 
 same-length-6 : tie.Need-same-length-6
 same-length-6 c = search needs
@@ -93,6 +99,15 @@ returns-6 : tie.Need-returns-6
 returns-6 c =
     let a = c .before .before .before .before .before .before .before .before .before .before .before .args in
     let kind = sym (c .before .before .before .before .before .before .kind-of .ensures) ∙ c .before .before .before .before .enum-told5 .given .1 in
+    as-result (a .r) (a .next) (a .out .now) (a .at) (later-calls (a .r) (a .bytes .now) (c .before .before .before .before .before .before .before .if1 .left) kind) (c .before .before .show-record .ensures)
+
+same-length-7 : tie.Need-same-length-7
+same-length-7 c = search needs
+
+returns-7 : tie.Need-returns-7
+returns-7 c =
+    let a = c .before .before .before .before .before .before .before .before .before .before .before .args in
+    let kind = sym (c .before .before .before .before .before .before .kind-of .ensures) ∙ c .before .before .before .before .enum-told6 .given .1 in
     as-result (a .r) (a .next) (a .out .now) (a .at) (later-calls (a .r) (a .bytes .now) (c .before .before .before .before .before .before .before .if1 .left) kind) (c .before .before .end-with .ensures)
 
 pub rehearse-record-spec : {M : Type 1} → statement M
@@ -110,8 +125,10 @@ rehearse-record-spec =
     enum-told-3
     bare-slot-requires
     enum-told-4
-    show-record-requires
+    calendar-record-requires
     enum-told-5
+    show-record-requires
+    enum-told-6
     end-with-requires
     same-length-2
     returns-2
@@ -122,4 +139,6 @@ rehearse-record-spec =
     same-length-5
     returns-5
     same-length-6
-    returns-6)
+    returns-6
+    same-length-7
+    returns-7)

@@ -13,6 +13,9 @@ use Rattle.show_lines.proofs.put_show.Tie as tie
 put-counters-requires : tie.Need-put-counters-requires
 put-counters-requires c κs = search needs
 
+put-owners-requires : tie.Need-put-owners-requires
+put-owners-requires c κs = search needs
+
 put-groups-requires : tie.Need-put-groups-requires
 put-groups-requires c κs = search needs
 
@@ -30,12 +33,14 @@ unfolding showLines
 returns c =
     let atMessages = c .before .before .before .before .before .before in
     let atGroups = atMessages .before .before .before .before in
-    let atCounters = atGroups .before .before .before .before in
+    let atOwners = atGroups .before .before .before .before in
+    let atCounters = atOwners .before .before .before .before in
     let a = atCounters .before .before .before .args in
+    let owners = one-line (atOwners .put-owners .ensures) in
     let groups = these-lines (groupsLines (a .c .groups) (groupLine (a .call) (a .c))) (atGroups .put-groups .ensures) in
     let messages = these-lines (map (messageLine (a .call)) (take (a .count) (a .stations))) (atMessages .put-messages .ensures) in
     let wire = these-lines (groupsLines (a .c .groups) (wireLine (a .call) (a .c .minislots) (a .wire))) (c .before .before .put-wire .ensures) in
-    let all = then-lines (then-lines (then-lines (one-line (atCounters .put-counters .ensures)) groups) messages) wire in
+    let all = then-lines (then-lines (then-lines (then-lines (one-line (atCounters .put-counters .ensures)) owners) groups) messages) wire in
     (all .buffer, all .reached)
 
 pub put-show-spec : {M : Type 1} → statement M
@@ -43,6 +48,7 @@ put-show-spec =
     tie.close
     (tie.spec
     put-counters-requires
+    put-owners-requires
     put-groups-requires
     put-messages-requires
     put-wire-requires

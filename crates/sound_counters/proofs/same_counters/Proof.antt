@@ -1,4 +1,4 @@
--- `same_counters` compares the numbers in turn, then the two arrays. Assumes nothing.
+-- `same_counters` compares the numbers in turn, then the arrays, then calendar and position. Assumes nothing.
 use borrow.Author.Needs.{needs}
 use borrow.Author.Tests.{eq-eqb, ne-eqb, not-true, not-false}
 use Rattle.channel_rules.specs.Soundness.{sameCounters}
@@ -37,7 +37,37 @@ same-marks-requires c κs = search needs
 
 returns-7 : tie.Need-returns-7
 unfolding sameCounters
-returns-7 c = rw (eq-eqb _ _ (c .before .before .before .before .before .before .before .before .before .before .before .before .before .before .before .before .before .before .before .if1 .left), eq-eqb _ _ (c .before .before .before .before .before .before .before .before .before .before .before .before .before .before .before .before .if2 .left), eq-eqb _ _ (c .before .before .before .before .before .before .before .before .before .before .before .before .before .if3 .left), eq-eqb _ _ (c .before .before .before .before .before .before .before .before .before .before .if4 .left), eq-eqb _ _ (c .before .before .before .before .before .before .before .if5 .left), ← (c .before .before .before .before .same-numbers .ensures), not-false (c .before .before .before .before .same-numbers .result) (c .before .before .before .if6 .left)) (c .same-marks .ensures)
+returns-7 c =
+    rw (
+      eq-eqb _ _ (c .before .before .before .before .before .before .before .before .before .before .before .before .before .before .before .before .before .before .before .before .if1 .left),
+      eq-eqb _ _ (c .before .before .before .before .before .before .before .before .before .before .before .before .before .before .before .before .before .if2 .left),
+      eq-eqb _ _ (c .before .before .before .before .before .before .before .before .before .before .before .before .before .before .if3 .left),
+      eq-eqb _ _ (c .before .before .before .before .before .before .before .before .before .before .before .if4 .left),
+      eq-eqb _ _ (c .before .before .before .before .before .before .before .before .if5 .left),
+      ← (c .before .before .before .before .before .same-numbers .ensures),
+      not-false (c .before .before .before .before .before .same-numbers .result) (c .before .before .before .before .if6 .left),
+      ← (c .before .same-marks .ensures),
+      not-true (c .before .same-marks .result) (c .if7 .taken),
+    )
+
+same-calendar-requires : tie.Need-same-calendar-requires
+same-calendar-requires c κs = search needs
+
+returns-8 : tie.Need-returns-8
+unfolding sameCounters
+returns-8 c =
+    rw (
+      eq-eqb _ _ (c .before .before .before .before .before .before .before .before .before .before .before .before .before .before .before .before .before .before .before .before .before .if1 .left),
+      eq-eqb _ _ (c .before .before .before .before .before .before .before .before .before .before .before .before .before .before .before .before .before .before .if2 .left),
+      eq-eqb _ _ (c .before .before .before .before .before .before .before .before .before .before .before .before .before .before .before .if3 .left),
+      eq-eqb _ _ (c .before .before .before .before .before .before .before .before .before .before .before .before .if4 .left),
+      eq-eqb _ _ (c .before .before .before .before .before .before .before .before .before .if5 .left),
+      ← (c .before .before .before .before .before .before .same-numbers .ensures),
+      not-false (c .before .before .before .before .before .before .same-numbers .result) (c .before .before .before .before .before .if6 .left),
+      ← (c .before .before .same-marks .ensures),
+      not-false (c .before .before .same-marks .result) (c .before .if7 .left),
+    )
+    (c .same-calendar .ensures)
 
 pub same-counters-spec : {M : Type 1} → statement M
 same-counters-spec =
@@ -51,4 +81,6 @@ same-counters-spec =
     same-numbers-requires
     returns-6
     same-marks-requires
-    returns-7)
+    returns-7
+    same-calendar-requires
+    returns-8)

@@ -6,10 +6,13 @@ use Rattle.bench.proofs.kinds.counters_of.Statement.{statement}
 use Rattle.bench.proofs.kinds.counters_of.Tie as tie
 
 abbrev Inv-loop : tie.InvT-loop
-Inv-loop kind groups resolution₀ g₀ resolution g = g ≤ 8
+Inv-loop kind groups calendar resolution₀ g₀ resolution g = g ≤ 8
 
 abbrev μ-loop : tie.MeasureT-loop
-μ-loop kind groups resolution₀ g₀ resolution g = 8 - g
+μ-loop kind groups calendar resolution₀ g₀ resolution g = 8 - g
+
+calendar-of-requires : tie.Need-calendar-of-requires Inv-loop μ-loop
+calendar-of-requires c κs = search needs
 
 loop-holds : tie.Need-loop-holds Inv-loop μ-loop
 loop-holds c = search needs
@@ -47,6 +50,7 @@ counters-of-spec =
     (tie.spec
     Inv-loop
     μ-loop
+    calendar-of-requires
     loop-holds
     queue-requires
     mul-resolution

@@ -8,13 +8,10 @@ use Rattle.listener_run.proofs.recording.rows.Statement.{statement}
 use Rattle.listener_run.proofs.recording.rows.Tie as tie
 
 abbrev Inv-loop : tie.InvT-loop
-Inv-loop way n m words counts first c₀ width at₀ i₀ t14 t15 c at i = (i ≤ 40) × ((at ≤ 160 + 8 * i) × ((width ≤ 8) × ((length words ≡ 480) × (length counts ≡ 480))))
+Inv-loop way m shown words counts first c₀ width at₀ i₀ t14 t15 c at i = (i ≤ 40) × ((at ≤ 160 + 8 * i) × ((width ≤ 8) × ((length words ≡ 480) × (length counts ≡ 480))))
 
 abbrev μ-loop : tie.MeasureT-loop
-μ-loop way n m words counts first c₀ width at₀ i₀ t14 t15 c at i = 40 - i
-
-start-requires : tie.Need-start-requires Inv-loop μ-loop
-start-requires c κs = search needs
+μ-loop way m shown words counts first c₀ width at₀ i₀ t14 t15 c at i = 40 - i
 
 loop-holds : tie.Need-loop-holds Inv-loop μ-loop
 loop-holds c = search needs
@@ -58,7 +55,6 @@ rows-spec =
     (tie.spec
     Inv-loop
     μ-loop
-    start-requires
     loop-holds
     add-end
     row-requires

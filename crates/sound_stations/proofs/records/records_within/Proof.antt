@@ -1,79 +1,59 @@
--- `records_within` tests one record after the other: what is left of the table tests as the whole. Assumes nothing.
-use mathlib.Core.Path.{_≡_, refl, sym, _∙_}
-use Prim.Native.Nat.{_-_, _≤_}
+-- `records_within` tests the counters that are shared, then what is each record's own. Assumes nothing.
+use mathlib.Core.Path.{_≡_, sym, ap, _∙_}
+use Prim.Native.Nat.{_≤_}
 use native.Mathlib.Omega.{arith}
 use borrow.Author.Needs.{needs}
 use borrow.Author.Tests.{not-true, not-false}
-use lib.ListN.{length, take, drop}
+use lib.ListN.{length, take}
+use lib.Seq.{length-take-le}
 use Rattle.listlaws.specs.Lists.{each}
-use Rattle.rules.specs.StationLimits.{stationWithin}
-use Rattle.channel_rules.specs.Soundness.{recordsWithin}
-use Rattle.listlaws.proofs.Loops.{first-rest, first-none, each-next, each-stop}
-use Rattle.sound_counters.proofs.Comparing.{blank}
+use Rattle.rules.specs.declared.Counters.{Counters}
+use Rattle.rules.specs.Limits.{withinLimits}
+use Rattle.sound_stations.specs.Stations.{besideWithin}
+use Rattle.sound_stations.proofs.Sharing.{none-within, limits-fail, limits-hold}
 use Rattle.sound_stations.proofs.records.records_within.Statement.{statement}
 use Rattle.sound_stations.proofs.records.records_within.Tie as tie
 
-abbrev Inv-loop : tie.InvT-loop
-Inv-loop count stations i₀ i = (i ≤ count) × (each stationWithin (drop i (take count stations)) ≡ each stationWithin (take count stations))
+returns : tie.Need-returns
+returns c =
+    let a = c .before .args in
+    let full : length (a .stations) ≡ 64 = search needs in
+    none-within (take (a .count) (a .stations)) (length-take-le (a .count) (a .stations) (omega arith) ∙ c .if1 .taken)
 
-abbrev μ-loop : tie.MeasureT-loop
-μ-loop count stations i₀ i = count - i
+table-counters-requires : tie.Need-table-counters-requires
+table-counters-requires c κs = search needs
 
-loop-holds : tie.Need-loop-holds Inv-loop μ-loop
-loop-holds c = (omega arith, refl)
-
-mul-s : tie.Need-mul-s Inv-loop μ-loop
-mul-s c = search needs
-
-array-copy-out-s : tie.Need-array-copy-out-s Inv-loop μ-loop
-array-copy-out-s c = search needs
-
-within-requires : tie.Need-within-requires Inv-loop μ-loop
+within-requires : tie.Need-within-requires
 within-requires c κs = search needs
 
-returns : tie.Need-returns Inv-loop μ-loop
-unfolding recordsWithin
-returns c =
-    let l = c .before .before .before .before .loop in
-    let a = c .before .before .before .before .before .args in
-    let w : length (a .t1) ≡ 64 = search needs in
-    sym (sym (l .inv .1) ∙ each-stop (first-rest (a .t1) (a .count) (omega arith) (l .i) blank (omega arith)) stationWithin (sym (c .before .within .ensures) ∙ not-true _ (c .if1 .taken)))
-
-add-i : tie.Need-add-i Inv-loop μ-loop
-add-i c = search needs
-
-loop-less : tie.Need-loop-less Inv-loop μ-loop
-loop-less c = search needs
-
-loop-again : tie.Need-loop-again Inv-loop μ-loop
-loop-again c =
-    let l = c .before .before .before .before .loop in
-    let a = c .before .before .before .before .before .args in
-    let w : length (a .t1) ≡ 64 = search needs in (
-      omega arith,
-      sym (each-next (first-rest (a .t1) (a .count) (omega arith) (l .i) blank (omega arith)) stationWithin (sym (c .before .within .ensures) ∙ not-false _ (c .if1 .left))) ∙ l .inv .1,
-    )
-
-returns-2 : tie.Need-returns-2 Inv-loop μ-loop
-unfolding recordsWithin
+returns-2 : tie.Need-returns-2
 returns-2 c =
-    let l = c .before .loop in
-    let a = c .before .before .args in
-    let w : length (a .t1) ≡ 64 = search needs in
-    (rw (first-none (a .t1) (a .count) (omega arith) (l .i) (omega arith)) at (l .inv .1))
+    let a = c .before .before .before .before .args in
+    let full : length (a .stations) ≡ 64 = search needs in
+    let l = take (a .count) (a .stations) in
+    let few : a .count ≤ 64 = c .before .before .before .before .pre .0 in
+    let some : 1 ≤ length l = omega (arith, length-take-le (a .count) (a .stations) (omega arith), c .before .before .before .if1 .left) in
+    limits-fail l some (ap withinLimits (sym (c .before .before .table-counters .ensures)) ∙ sym (c .before .within .ensures) ∙ not-true _ (c .if2 .taken))
+
+besides-within-requires : tie.Need-besides-within-requires
+besides-within-requires c κs = c .before .before .before .before .pre .0
+
+returns-3 : tie.Need-returns-3
+returns-3 c =
+    let a = c .before .before .before .before .before .args in
+    let l = take (a .count) (a .stations) in
+    let k = c .before .before .before .table-counters in
+    c .besides-within .ensures
+    ∙ ap (λ (x : Counters). each (besideWithin x) l) (k .ensures)
+    ∙ limits-hold l (c .before .before .before .before .before .pre .1) (ap withinLimits (sym (k .ensures)) ∙ sym (c .before .before .within .ensures) ∙ not-false _ (c .before .if2 .left))
 
 pub records-within-spec : {M : Type 1} → statement M
 records-within-spec =
     tie.close
     (tie.spec
-    Inv-loop
-    μ-loop
-    loop-holds
-    mul-s
-    array-copy-out-s
-    within-requires
     returns
-    add-i
-    loop-less
-    loop-again
-    returns-2)
+    table-counters-requires
+    within-requires
+    returns-2
+    besides-within-requires
+    returns-3)

@@ -1,8 +1,8 @@
--- `refuse_offer` writes no record, and leaves the wire. Assumes nothing.
+-- `decline` writes no record, and leaves the wire. Assumes nothing.
 use borrow.Author.Needs.{needs}
 use Rattle.table.specs.Loading.{blankOf}
-use Rattle.offers.proofs.refuse_offer.Statement.{statement}
-use Rattle.offers.proofs.refuse_offer.Tie as tie
+use Rattle.calls.proofs.decline.Statement.{statement}
+use Rattle.calls.proofs.decline.Tie as tie
 
 blanks-requires : tie.Need-blanks-requires
 blanks-requires c κs = search needs
@@ -17,5 +17,5 @@ returns : tie.Need-returns
 unfolding blankOf
 returns c = rw (c .refuse .ensures, c .before .hold .ensures, c .before .before .blanks .ensures)
 
-pub refuse-offer-spec : {M : Type 1} → statement M
-refuse-offer-spec = tie.close (tie.spec blanks-requires hold-requires refuse-requires returns)
+pub decline-spec : {M : Type 1} → statement M
+decline-spec = tie.close (tie.spec blanks-requires hold-requires refuse-requires returns)
