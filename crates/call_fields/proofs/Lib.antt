@@ -1,3 +1,2 @@
 pub mod OfferReads
 pub mod StartReads
-pub mod CalendarReads

@@ -1,18 +1,15 @@
--- The numbers of a start, of an offer and of a calendar, by the parts between a record's commas. A number that its parameter can't hold (m
--- or n above 255, an index or an entry above 65,535) breaks the record, as a part that is no number does: it is answered 19. Assumes
--- nothing.
+-- The numbers of a start and of an offer, by the parts between a record's commas. A number that its parameter can't hold (m or n above 255,
+-- an index above 65,535) breaks the record, as a part that is no number does: it is answered 19. Assumes nothing.
 use mathlib.Core.Bool.{cond, _&&_}
-use mathlib.Core.List.{List, [], _∷_, map}
+use mathlib.Core.List.{List, [], _∷_}
 use Prim.Native.Nat.{ℕ}
 use lib.Dec.{eqb}
-use lib.ListN.{length, take, replicate}
-use Rattle.fields.specs.Fields.{every, isField, numeral}
+use Rattle.fields.specs.Fields.{isField, numeral}
 use Rattle.number_lists.specs.declared.NumberList.{NumberList}
 use Rattle.number_lists.specs.NumberList.{isNumber, listWith, listOf}
 use Rattle.call_fields.specs.declared.OfferFields.{OfferFields}
 use Rattle.call_fields.specs.declared.OfferFields.the-variants.{Numbers, Broken}
 use Rattle.call_fields.specs.declared.StartFields.{StartFields}
-use Rattle.call_fields.specs.declared.CalendarFields.{CalendarFields}
 
 -- AN OFFER: two parts, the index and the bytes
 unfoldable pub offerIn : List (List ℕ) → OfferFields
@@ -35,16 +32,3 @@ startIn [] = brokenStart
 startIn (p ∷ []) = brokenStart
 startIn (p ∷ q ∷ ps) =
     cond (isNumber 255 p && isNumber 255 q) (startWith (numeral p) (numeral q) (listOf 65535 ps)) brokenStart
-
--- a calendar that is answered 19
-unfoldable pub brokenCalendar : CalendarFields
-brokenCalendar = record { number = 19; entries = replicate 24 0 }
-
--- a calendar of the numbers of a list, if they could be read and are 24
-abbrev pub calendarWith : NumberList → CalendarFields
-calendarWith l =
-    cond (eqb (l .number) 0 && eqb (l .count) 24) (record { number = 0; entries = take 24 (l .values) }) brokenCalendar
-
--- A CALENDAR: 24 parts, an entry each
-unfoldable pub calendarIn : List (List ℕ) → CalendarFields
-calendarIn ps = cond (eqb (length ps) 24 && every (isNumber 65535) ps) (record { number = 0; entries = map numeral ps }) brokenCalendar

@@ -1,4 +1,4 @@
-// Reading the numbers of a start, of an offer and of a calendar from a record of `rehearse`, which is handed over without its CR LF.
+// Reading the numbers of a start and of an offer from a record of `rehearse`, which is handed over without its CR LF.
 use fields::Field;
 use fields::field_at;
 use number_lists::NumberList;
@@ -6,10 +6,9 @@ use number_lists::no_numbers;
 use number_lists::numbers_from;
 ghost use mathlib.Core.Path.{_≡_};
 ghost use Prim.Native.Nat.{_≤_};
-ghost use lib.ListN.{take, drop};
+ghost use lib.ListN.{drop};
 ghost use Rattle.fields.specs.Fields.{parts};
 ghost use Rattle.call_fields.specs.CallFields.{offerIn, startIn, startWith, brokenStart};
-ghost use Rattle.call_fields.specs.CallFields.{calendarIn, calendarWith, brokenCalendar};
 
 // An offer's index and bytes, or number 19.
 pub enum OfferFields {
@@ -24,15 +23,6 @@ pub struct StartFields {
     pub n: u8,
     pub indexes: NumberList,
 }
-
-// A calendar's entries: number 0; or number 19.
-pub struct CalendarFields {
-    pub number: u8,
-    pub entries: [u16; 24],
-}
-
-// A calendar has so many entries.
-const POSITIONS: usize = 24;
 
 // The two numbers of an offer, whose fields begin at place start.
 pub fn offer_fields(bytes: &[u8], start: usize) -> OfferFields
@@ -110,50 +100,4 @@ pub fn start_fields(bytes: &[u8]) -> StartFields
         return start_with(m as u8, n as u8, no_numbers());
     }
     start_with(m as u8, n as u8, numbers_from(bytes, after, 65535))
-}
-
-fn broken_calendar() -> CalendarFields
-    ensures { λ r. ⌜ r ≡ brokenCalendar ⌝ }
-{
-    CalendarFields {
-        number: 19,
-        entries: [0u16; 24],
-    }
-}
-
-// The first 24 of the numbers.
-fn first_entries(values: [u16; 256]) -> [u16; 24]
-    ensures { λ r. ⌜ r ≡ take 24 values ⌝ }
-{
-    let mut entries = [0u16; 24];
-    let mut i: usize = 0;
-    while i < POSITIONS {
-        entries[i] = values[i];
-        i += 1;
-    }
-    entries
-}
-
-// A calendar of these entries, if they could be read and are as many as they must be.
-fn calendar_with(list: NumberList) -> CalendarFields
-    ensures { λ r. ⌜ r ≡ calendarWith list ⌝ }
-{
-    if list.number != 0 {
-        return broken_calendar();
-    }
-    if list.count != POSITIONS {
-        return broken_calendar();
-    }
-    let values = list.values;
-    CalendarFields {
-        number: 0,
-        entries: first_entries(values),
-    }
-}
-
-// The entries of a calendar, whose fields begin at place start.
-pub fn calendar_fields(bytes: &[u8], start: usize) -> CalendarFields
-    ensures { λ r. ⌜ r ≡ calendarIn (parts (drop start (now (bytes .entry)))) ⌝ }
-{
-    calendar_with(numbers_from(bytes, start, 65535))
 }

@@ -1,18 +1,16 @@
 -- A calendar beside the shared table: an owned slot's one sender is the owner, as the table's answer has it, and setting a calendar is the table's call,
 -- records, wire and answer. Assumes nothing.
-use mathlib.Core.Path.{_≡_, refl, sym, ap, _∙_}
+use mathlib.Core.Path.{_≡_, refl, ap, _∙_}
 use mathlib.Core.Bool.{Bool, true, false, cond, _&&_}
 use mathlib.Core.List.{List, [], _∷_, map}
 use mathlib.Core.Option.{Option, none, some}
 use Prim.Native.Nat.{ℕ, suc, _<_}
 use lib.Dec.{eqb}
-use lib.ListN.{length, getD, length-map}
+use lib.ListN.{length, length-map}
 use Rattle.rules.specs.declared.Station.{Station}
-use Rattle.rules.specs.declared.Answer.the-variants.{Set}
-use Rattle.rules.specs.Calendars.{someFree}
 use Rattle.rules.specs.Refusing.{unless, byNumber}
 use Rattle.rules.specs.Settings.{calendarOn}
-use Rattle.channel_rules.specs.Soundness.{soundTable, entryOn, entriesOn}
+use Rattle.channel_rules.specs.Soundness.{soundTable, entriesOn}
 use Rattle.channel_rules.specs.ChannelCalls.{Channel, hasStations, refused, DataSent, loneIndex, loneSegment, calendarSet, channelCalendarNumberOf, channelCalendarOf}
 use Rattle.rules.specs.Calls.{Start, index, Calendar}
 use Rattle.rules.specs.Messages.{Segment}

@@ -3,7 +3,6 @@
 use mathlib.Core.Path.{_≡_, refl, sym, ap, subst, _∙_}
 use mathlib.Core.Bool.{Bool, true, false, cond}
 use mathlib.Core.List.{List, [], _∷_, map}
-use mathlib.Core.Logic.{_≢_}
 use mathlib.Core.Option.{none, some}
 use Prim.Native.Nat.{ℕ, zero, suc, _+_, _-_, _≤_, _<_}
 use native.Mathlib.Omega.{arith}
@@ -33,7 +32,7 @@ use Rattle.rules.specs.Refusing.{unless, byNumber}
 use Rattle.rules.specs.StationCalls.{isFree, withCondition, noStation, takingNumberOf}
 use Rattle.channel_rules.specs.Soundness.{tableCounters, recordsWithin, positionOf, soundTable}
 use Rattle.channel_rules.specs.ChannelCalls.{Channel, ChannelResult, blankRow, hasStations, refused, stationOf, takenAt, channelOfferNumberOf, channelOfferOf, heardRow, feedbackHeard, slotsOf, slotsHeard, outcomeHeard, newRow, dataSent, sentOf, deliveredNow, slotAnswer, slotThrough, channelSlotNumberOf, channelSlotOf, channelCall}
-use Rattle.rules.specs.declared.Answer.the-variants.{Refused, Taken}
+use Rattle.rules.specs.declared.Answer.the-variants.{Taken}
 use Rattle.rules.specs.Calls.{Start, index, Call, Offer, Slot, Calendar}
 use Rattle.rules.specs.Plain.{Plain, plainOwner, plainSettled, stationFrom, inRange}
 use Rattle.rules.proofs.QueueingLaws.{fits-cond}
@@ -51,8 +50,7 @@ use Rattle.rules.proofs.Walking.{IsStation, AreStations, get-set, tableQueued, 
 use Rattle.channel_rules.proofs.EmbodySlot.{asData, sendersIn, Through, AllThrough, walk-are, data-are, row-are}
 use Rattle.channel_rules.proofs.Gathering.{slots-length}
 use Rattle.channel_rules.proofs.SoundTests.{sound-tests}
-use Rattle.channel_rules.proofs.SoundMeans.{all-at}
-use Rattle.channel_rules.proofs.Embody.{Embodies, Embodied, GoodStart, fits-placed, asks-once, set-self, positionIn, position-map, position-eq, picks-same, one-served, both, names-are, feedback-is, station-at, same-length}
+use Rattle.channel_rules.proofs.Embody.{Embodies, Embodied, GoodStart, fits-placed, asks-once, positionIn, position-map, position-eq, picks-same, one-served, both, names-are, feedback-is, station-at, same-length}
 use Rattle.channel_rules.proofs.EmbodyCalendars.{TellsOf, tells-of, owner-station, as-plain, calendar-call}
 use Rattle.rules.specs.Outcome.{successes, outcomeBy, outcomeOf}
 

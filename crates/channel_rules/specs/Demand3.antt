@@ -9,14 +9,12 @@ use Prim.Native.Nat.{ℕ, _+_, _-_, _%_, _≤_, _<_}
 use lib.Dec.{eqb}
 use lib.ListN.{length, getD}
 use Rattle.requests.specs.Together.{Request, carries, silent, together}
-use Rattle.minislot.specs.declared.Feedback.{Feedback}
-use Rattle.rows.specs.Row.{readings, feedbacks}
 use Rattle.rules.specs.declared.Places.{Places}
 use Rattle.rules.specs.declared.Station.{Station}
 use Rattle.rules.specs.declared.StartAnswer.the-variants.{Ready}
 use Rattle.listlaws.specs.Lists.{sumOf, countOf}
 use Rattle.rules.specs.Calendars.{ownerOf}
-use Rattle.rules.specs.Hearing.{wordsOf, countsOf}
+use Rattle.rules.specs.Hearing.{wordsOf}
 use Rattle.rules.specs.Queueing.{placesAfter}
 use Rattle.rules.specs.declared.Turn.{Turn}
 use Rattle.rules.specs.declared.Condition.the-variants.{Long}

@@ -1,6 +1,6 @@
 // A record of `rehearse` that makes a call on the channel: the channel's own call, by what the record holds.
+use calendar_fields::calendar_fields;
 use call_fields::OfferFields;
-use call_fields::calendar_fields;
 use call_fields::offer_fields;
 use number_lists::low_bytes;
 use number_lists::numbers_from;
@@ -12,7 +12,8 @@ ghost use mathlib.Core.Path.{_≡_};
 ghost use lib.ListN.{drop};
 ghost use Rattle.fields.specs.Fields.{parts};
 ghost use Rattle.number_lists.specs.NumberList.{listOf};
-ghost use Rattle.call_fields.specs.CallFields.{offerIn, calendarIn};
+ghost use Rattle.call_fields.specs.CallFields.{offerIn};
+ghost use Rattle.calendar_fields.specs.CalendarFields.{calendarIn};
 ghost use Rattle.rehearsing.specs.Rehearsing.{offerResult, slotResult, bareResult, calendarResult};
 ghost use Rattle.rehearsing.specs.Rehearse.{reachedBy, resultBy};
 

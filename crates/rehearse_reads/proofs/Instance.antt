@@ -19,7 +19,8 @@ use Rattle.call_records.specs.Words.{kindOf}
 use Rattle.call_fields.specs.declared.OfferFields.{OfferFields}
 use Rattle.call_fields.specs.declared.OfferFields.the-variants.{Numbers, Broken}
 use Rattle.call_fields.specs.declared.StartFields.{StartFields}
-use Rattle.call_fields.specs.CallFields.{offerIn, brokenStart, startIn, brokenCalendar, calendarIn}
+use Rattle.call_fields.specs.CallFields.{offerIn, brokenStart, startIn}
+use Rattle.calendar_fields.specs.CalendarFields.{brokenCalendar, calendarIn}
 use Rattle.answer_lines.specs.AnswerLines.{answerLine}
 use Rattle.show_lines.specs.ShowLines.{showLines}
 use Rattle.refusals.proofs.RefusalLaws.{refusal-within}

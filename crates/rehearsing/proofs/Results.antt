@@ -13,7 +13,7 @@ use Rattle.number_lists.proofs.LowBytes.{low-used}
 use Rattle.call_fields.specs.declared.OfferFields.{OfferFields}
 use Rattle.call_fields.specs.declared.OfferFields.the-variants.{Numbers, Broken}
 use Rattle.call_fields.specs.declared.StartFields.{StartFields}
-use Rattle.call_fields.specs.declared.CalendarFields.{CalendarFields}
+use Rattle.calendar_fields.specs.declared.CalendarFields.{CalendarFields}
 use Rattle.local_channel.specs.declared.LocalCalled.{LocalCalled}
 use Rattle.local_channel.specs.declared.LocalStarted.{LocalStarted}
 use Rattle.local_channel.specs.Local.{localOfferOf, localSlotOf, localCalendarOf}

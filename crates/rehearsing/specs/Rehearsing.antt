@@ -15,8 +15,9 @@ use Rattle.call_records.specs.Words.{kindOf}
 use Rattle.call_fields.specs.declared.OfferFields.{OfferFields}
 use Rattle.call_fields.specs.declared.OfferFields.the-variants.{Numbers, Broken}
 use Rattle.call_fields.specs.declared.StartFields.{StartFields}
-use Rattle.call_fields.specs.declared.CalendarFields.{CalendarFields}
-use Rattle.call_fields.specs.CallFields.{offerIn, startIn, calendarIn}
+use Rattle.call_fields.specs.CallFields.{offerIn, startIn}
+use Rattle.calendar_fields.specs.declared.CalendarFields.{CalendarFields}
+use Rattle.calendar_fields.specs.CalendarFields.{calendarIn}
 use Rattle.answer_lines.specs.AnswerLines.{answerLine}
 use Rattle.show_lines.specs.ShowLines.{showLines}
 use Rattle.programs.specs.Places.{placeFollowing}

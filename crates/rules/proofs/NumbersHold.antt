@@ -1,9 +1,8 @@
 -- The definition of each call of a listener or a station answers the number of its own list and the values that specs/Answered tells with it: what goes by the number goes by it alone.
 -- Assumes nothing.
-use mathlib.Core.Path.{_≡_, refl, ap, _∙_}
+use mathlib.Core.Path.{_≡_}
 use mathlib.Core.List.{List}
 use Prim.Native.Nat.{ℕ}
-use Rattle.rows.specs.Row.{readings, feedbacks}
 use Rattle.rules.specs.declared.Counters.{Counters}
 use Rattle.rules.specs.declared.Started.{Started}
 use Rattle.rules.specs.declared.Listened.{Listened}
@@ -13,14 +12,13 @@ use Rattle.rules.specs.declared.StationOffered.{StationOffered}
 use Rattle.rules.specs.declared.StationSlot.{StationSlot}
 use Rattle.rules.specs.Starting.{refusedListener, startNumberOf, startOf}
 use Rattle.rules.specs.Listening.{refusedListening, listened, listenNumberOf, listeningOf}
-use Rattle.rules.specs.Outcome.{outcomeBy}
 use Rattle.rules.specs.Stepping.{stepOf}
 use Rattle.rules.specs.StationCalls.{refusedStart, stationStartNumberOf, stationStartOf, refusedOffer, offerNumberOf, offerOf, refusedSlot, slotNumberOf, slotOf}
 use Rattle.rules.specs.declared.CalendarSet.{CalendarSet}
 use Rattle.rules.specs.declared.StationSet.{StationSet}
 use Rattle.rules.specs.Settings.{refusedCalendar, calendarNumberOf, calendarOf, refusedSetting, stationCalendarNumberOf, stationCalendarOf}
 use Rattle.rules.specs.Recorded.{stretch, listeningAtOf, slotAtOf}
-use Rattle.rules.specs.Numbers.{Told, startTold, listenTold, offerTold, slotTold, calendarTold}
+use Rattle.rules.specs.Numbers.{startTold, listenTold, offerTold, slotTold, calendarTold}
 use Rattle.rules.specs.Answered.{startToldOf, listenToldOf, stationStartToldOf, offerToldOf, slotToldOf, listenAtToldOf, slotAtToldOf, calendarToldOf, stationCalendarToldOf}
 use Rattle.rules.proofs.Refusals.{by-ap}
 

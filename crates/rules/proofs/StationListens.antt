@@ -1,14 +1,12 @@
 -- A station keeps the listener's counters: when its slot goes through, a listener with its counters that hears the same row gives the same turn and has the
 -- same counters after; when its calendar is set, so is that of a listener with its counters, and they have the same counters after. Assumes nothing.
 use mathlib.Core.Path.{_≡_, refl}
-use mathlib.Core.Bool.{Bool, true, false, cond}
 use mathlib.Core.List.{List}
 use Prim.Native.Nat.{ℕ}
 use native.Mathlib.Omega.{arith}
 use Rattle.rows.specs.Row.{readings, firstNumber, feedbacks}
 use Rattle.rules.specs.declared.Station.{Station}
 use Rattle.rules.specs.declared.StationSlot.{StationSlot}
-use Rattle.rules.specs.declared.Listened.{Listened}
 use Rattle.rules.specs.declared.ListenAnswer.the-variants.{Went as WentListening}
 use Rattle.rules.specs.declared.SlotAnswer.the-variants.{Went as WentSlot}
 use Rattle.rules.specs.declared.StationSet.{StationSet}

@@ -35,7 +35,7 @@ use Rattle.rules.specs.Stepping.{stepOf}
 use Rattle.rules.specs.Calls.{Start, index}
 use Rattle.rules.proofs.Clauses.{settle, asks, less}
 use Rattle.rules.proofs.ClauseLaws.{Placed, settle-is, asks-is, falls-is, sends-is, less-is, urgent-falls-is, long-falls-is}
-use Rattle.rules.proofs.Shared.{Table, TableResult, tableRefuse, tableAccept, tableOffer, tablePlaces, tableSuccess, tableOwner, tableCondition, tableWent, tableSends}
+use Rattle.rules.proofs.Shared.{Table, tableRefuse, tableAccept, tableOffer, tablePlaces, tableSuccess, tableOwner, tableCondition, tableWent, tableSends}
 use Rattle.rules.proofs.Settled.{settledOf, segmentSent, conditionAfter, stationAfter, wentBy, step-is}
 use Rattle.rules.proofs.QueueingLaws.{fits-if}
 use Rattle.rules.proofs.LimitLaws.{within-limits, station-in}

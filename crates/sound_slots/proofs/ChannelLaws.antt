@@ -2,20 +2,18 @@
 -- start and the shared table that the laws of demand 3 speak of are made from the records themselves. And its wire, which only stations wrote, has no clicks.
 -- Assumes nothing.
 use mathlib.Core.Path.{_≡_, refl, sym, ap, subst, _∙_}
-use mathlib.Core.Bool.{Bool, true, false, not, cond, _&&_}
-use mathlib.Core.List.{List, [], _∷_, _++_, map}
-use mathlib.Core.Logic.{_⊎_, inl, inr, _≢_, by-cases}
+use mathlib.Core.Bool.{Bool, true, false, _&&_}
+use mathlib.Core.List.{List, [], _∷_, map}
+use mathlib.Core.Logic.{inl, inr, by-cases}
 use Prim.Native.Nat.{ℕ, zero, suc, _+_, _-_, _≤_, _<_}
 use native.Mathlib.Omega.{arith}
 use native.Mathlib.Nat.{zero-add}
 use native.Mathlib.Decide.{decLt}
-use lib.Dec.{eqb, ltb, leb}
-use lib.ListN.{length, getD, set, take, length-map}
+use lib.Dec.{eqb}
+use lib.ListN.{length, getD, take, length-map}
 use lib.Seq.{ext-getD}
-use borrow.Author.Tests.{eqb-true, ne-eqb, le-leb, leb-true}
 use Rattle.minislot.specs.declared.Minislot.{Minislot}
 use Rattle.minislot.specs.declared.Feedback.{Feedback}
-use Rattle.minislot.specs.declared.Reading.{Reading}
 use Rattle.minislot.specs.declared.Reading.the-variants.{Heard}
 use Rattle.minislot.specs.Click.{Click}
 use Rattle.rows.specs.Row.{readings, firstNumber, feedbacks}
@@ -23,29 +21,25 @@ use Rattle.requests.specs.Together.{Request, carries, silent, together}
 use Rattle.rules.specs.declared.Counters.{Counters}
 use Rattle.rules.specs.declared.Station.{Station}
 use Rattle.rules.specs.declared.WireRow.{WireRow}
-use Rattle.rules.specs.declared.Places.{Places}
-use Rattle.listlaws.specs.Lists.{each, onlyIf, gatherOf}
+use Rattle.listlaws.specs.Lists.{each, onlyIf}
 use Rattle.rules.specs.Limits.{between, withinLimits}
 use Rattle.rules.specs.Hearing.{wordsOf, countsOf}
-use Rattle.rules.specs.Queueing.{placesOf, placesAfter, immediateOf, passes}
-use Rattle.rules.specs.declared.Turn.{Turn}
-use Rattle.rules.specs.Turns.{turnOf}
-use Rattle.rules.specs.Listening.{hasRow}
+use Rattle.rules.specs.Queueing.{placesAfter, passes}
 use Rattle.rules.specs.declared.Condition.{Condition}
 use Rattle.rules.specs.declared.Condition.the-variants.{Free, Fresh, Asked, Resolving, Urgent, Long}
 use Rattle.rules.specs.StationLimits.{conditionWithin, stationWithin, isTotal}
 use Rattle.rules.specs.OwnHearing.{ownMinislot, ownTotal, hearsFrom, hearsItself}
 use Rattle.rules.specs.StationCalls.{noStation, slotOf}
-use Rattle.channel_rules.specs.Soundness.{tableCounters, askedRequests, askedMinislot, soundTable}
+use Rattle.channel_rules.specs.Soundness.{tableCounters, askedMinislot, soundTable}
 use Rattle.channel_rules.specs.SoundMeaning.{stationAt, Sound}
-use Rattle.channel_rules.specs.ChannelCalls.{Channel, blankRow, channelStartOf, channelAfter, heardRow, slotsOf}
+use Rattle.channel_rules.specs.ChannelCalls.{Channel, blankRow, channelStartOf, channelAfter, heardRow}
 use Rattle.rules.specs.Outcome.{outcomeOf}
 use Rattle.rules.specs.Stepping.{stepOf}
 use Rattle.rules.specs.Calls.{Start, index}
-use Rattle.rules.proofs.Views.{Sender, senderAt, eqb-self}
-use Rattle.rules.proofs.Shared.{Table, collect, gather, askedSender, askedRow}
+use Rattle.rules.proofs.Views.{senderAt, eqb-self}
+use Rattle.rules.proofs.Shared.{Table, gather, askedSender, askedRow}
 use Rattle.rules.proofs.SlotStep.{and-both}
-use Rattle.rules.proofs.WireRows.{asRequest, leaves, minislotRow, length-row, take-row, row-at, AsksOnce, Indexes, feedbackRow, row-reads, minislot-no-click, heard-number, heard-feedbacks}
+use Rattle.rules.proofs.WireRows.{leaves, minislotRow, length-row, take-row, row-at, AsksOnce, Indexes, row-reads, minislot-no-click, heard-number, heard-feedbacks}
 use Rattle.rules.proofs.OwnHears.{hears-row}
 use Rattle.rules.proofs.Walking.{IsStation, AreStations, slot-steps}
 use Rattle.channel_rules.proofs.Embody.{feedback-is}

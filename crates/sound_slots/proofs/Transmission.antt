@@ -13,7 +13,7 @@ use borrow.Author.Tests.{eqb-true, leb-true}
 use Rattle.minislot.specs.declared.Minislot.{Minislot}
 use Rattle.minislot.specs.declared.Feedback.{Feedback}
 use Rattle.minislot.specs.declared.Feedback.the-variants.{Empty, Single, Collide}
-use Rattle.rows.specs.Row.{readings, firstNumber, feedbacks}
+use Rattle.rows.specs.Row.{readings, feedbacks}
 use Rattle.minislot.specs.Click.{Click}
 use Rattle.minislot.specs.Reading.{readingOf}
 use Rattle.requests.specs.Together.{Request, carries, silent, together, Apart, Proper}
@@ -28,7 +28,7 @@ use Rattle.rules.specs.declared.WireRow.{WireRow}
 use Rattle.listlaws.specs.Lists.{each, eachPair, onlyIf}
 use Rattle.rules.specs.Limits.{between, withinLimits}
 use Rattle.rules.specs.Hearing.{wordsOf, countsOf}
-use Rattle.rules.specs.Queueing.{placesBefore, placesAfter, immediateOf, placesOf, passes}
+use Rattle.rules.specs.Queueing.{placesBefore, placesAfter, immediateOf, placesOf}
 use Rattle.rules.specs.declared.Turn.{Turn}
 use Rattle.rules.specs.declared.Turn.the-variants.{Owned as OwnedTurn, Urgent as UrgentTurn, Long as LongTurn, Resolve as ResolveTurn, Open as OpenTurn}
 use Rattle.rules.specs.Turns.{turnOf}
@@ -36,14 +36,13 @@ use Rattle.rules.specs.Listening.{hasRow}
 use Rattle.rules.specs.declared.Condition.{Condition}
 use Rattle.rules.specs.declared.Condition.the-variants.{Free, Fresh, Asked, Resolving, Urgent, Long}
 use Rattle.rules.specs.StationLimits.{isTotal, conditionWithin, stationWithin}
-use Rattle.rules.specs.OwnHearing.{hearsItself}
 use Rattle.rules.specs.Calendars.{ownerOf}
 use Rattle.rules.specs.Requesting.{waitsIn, requests, requested, totalOf}
 use Rattle.rules.specs.Serving.{moved}
 use Rattle.rules.specs.Outcome.{outcomeBy, outcomeOf}
 use Rattle.rules.specs.StationCalls.{slotNumberOf, slotOf, refusedSlot}
 use Rattle.channel_rules.specs.Soundness.{otherIndex, indexesDistinct, recordsWithin, tableCounters, soundTable}
-use Rattle.channel_rules.specs.ChannelCalls.{Channel, ChannelResult, blankRow, hasStations, refused, heardRow, feedbackHeard, slotsOf, slotsHeard, requestIn, requestsIn, newRow, slotThrough, outcomeHeard, channelSlotNumberOf, channelSlotOf}
+use Rattle.channel_rules.specs.ChannelCalls.{Channel, ChannelResult, blankRow, hasStations, refused, heardRow, slotsOf, requestIn, requestsIn, newRow, channelSlotNumberOf, channelSlotOf}
 use Rattle.rules.specs.declared.Answer.the-variants.{Went}
 use Rattle.channel_rules.specs.SoundMeaning.{stationAt, Sound}
 use Rattle.sound_slots.specs.RowAccount.{RowAccount, RowAccountHolds}
@@ -51,7 +50,7 @@ use Rattle.rules.proofs.SlotStep.{and-both}
 use Rattle.rules.proofs.LimitLaws.{within-limits, station-in}
 use Rattle.channel_rules.proofs.SoundTests.{sound-tests}
 use Rattle.channel_rules.proofs.SoundMeans.{not-eq, sound-says}
-use Rattle.rules.proofs.Settled.{standsAlone, standsAfter, feedbackAt, settledBy, settledOf, requesting, conditionAfter, segmentSent, stationAfter, wentBy, step-is}
+use Rattle.rules.proofs.Settled.{standsAlone, standsAfter, feedbackAt, settledBy, settledOf, requesting, conditionAfter, stationAfter, wentBy, step-is}
 use Rattle.rules.specs.Stepping.{requestMinislot, stepOf}
 use Rattle.rules.proofs.Refusals.{through-only, test-passed}
 use Rattle.rules.proofs.Walking.{row-fits}
@@ -227,7 +226,7 @@ account stations words counts picks e w =
         new-at (slotsOf words counts stations picks) 8 1 (j - 1) (omega arith)
         ∙ ap (λ (x : ℕ). together (map carries (requestsIn x (slotsOf words counts stations picks)))) (let z : 1 + (j - 1) ≡ j = omega arith in z)
 
-some-stations : (l : List Station) → hasStations l ≡ true → 1 ≤ length l
+pub some-stations : (l : List Station) → hasStations l ≡ true → 1 ≤ length l
 some-stations l e = leb-true 1 (length l) (and-both (leb 1 (length l)) (leb (length l) 64) e .0)
 
 -- what the slot that went through leaves on the wire

@@ -4,7 +4,7 @@ use mathlib.Core.List.{List}
 use Prim.Native.Nat.{_-_, _≤_}
 use native.Mathlib.Omega.{arith}
 use borrow.Author.Needs.{needs}
-use lib.ListN.{length, getD, set, length-set}
+use lib.ListN.{length, set, length-set}
 use Rattle.rules.specs.declared.Station.{Station}
 use Rattle.rules.specs.Settings.{calendarOn}
 use Rattle.table.specs.Loading.{absent}

@@ -13,7 +13,7 @@ use Rattle.listlaws.specs.Lists.{each}
 use Rattle.channel_rules.specs.Soundness.{sameCounters, tableCounters, countersShared}
 use Rattle.listlaws.proofs.Loops.{first-rest, first-none, each-next, each-stop}
 use Rattle.drawing.proofs.Filling.{all-taken}
-use Rattle.sound_counters.proofs.Comparing.{blank}
+use Rattle.sound_counters.proofs.FirstRecord.{blank}
 use Rattle.sound_counters.proofs.counters_shared.Statement.{statement}
 use Rattle.sound_counters.proofs.counters_shared.Tie as tie
 

@@ -3,7 +3,7 @@ use mathlib.Core.Path.{_≡_}
 use native.Mathlib.Omega.{arith}
 use borrow.Author.Needs.{needs}
 use lib.ListN.{length}
-use Rattle.sound_counters.proofs.Comparing.{first-counters}
+use Rattle.sound_counters.proofs.FirstRecord.{first-counters}
 use Rattle.sound_counters.proofs.table_counters.Statement.{statement}
 use Rattle.sound_counters.proofs.table_counters.Tie as tie
 

@@ -10,7 +10,7 @@ use lib.ListN.{take}
 use Rattle.listlaws.specs.Lists.{padded}
 use Rattle.rules.specs.declared.Station.{Station}
 use Rattle.sound_stations.specs.Stations.{indexIn}
-use Rattle.sound_counters.proofs.Comparing.{blank}
+use Rattle.sound_counters.proofs.FirstRecord.{blank}
 use Rattle.drawing.proofs.Filling.{Filled, filled-none, filled-one, gather-each}
 use Rattle.sound_stations.proofs.indexes.indexes.Statement.{statement}
 use Rattle.sound_stations.proofs.indexes.indexes.Tie as tie

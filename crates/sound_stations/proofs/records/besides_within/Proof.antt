@@ -8,7 +8,7 @@ use lib.ListN.{length, take, drop}
 use Rattle.listlaws.specs.Lists.{each}
 use Rattle.sound_stations.specs.Stations.{besideWithin}
 use Rattle.listlaws.proofs.Loops.{first-rest, first-none, each-next, each-stop}
-use Rattle.sound_counters.proofs.Comparing.{blank}
+use Rattle.sound_counters.proofs.FirstRecord.{blank}
 use Rattle.sound_stations.proofs.records.besides_within.Statement.{statement}
 use Rattle.sound_stations.proofs.records.besides_within.Tie as tie
 

@@ -7,7 +7,7 @@ use lib.ListN.{length}
 use mathlib.Core.Bool.{true}
 use Rattle.channel_rules.specs.Soundness.{messagesIn}
 use Rattle.drawing.specs.Drawn.{noTableMessage}
-use Rattle.sound_counters.proofs.Comparing.{blank}
+use Rattle.sound_counters.proofs.FirstRecord.{blank}
 use Rattle.drawing.proofs.Filling.{Filled, filled-none, filled-one}
 use Rattle.soundness.proofs.messages.messages.Statement.{statement}
 use Rattle.soundness.proofs.messages.messages.Tie as tie

@@ -8,14 +8,14 @@ use native.Mathlib.Numerals.{add-one}
 use native.Mathlib.Omega.{arith}
 use borrow.Author.Tests.{eqb-true, leb-true}
 use lib.Dec.{leb, eqb}
-use lib.ListN.{length, getD, take, drop, set, replicate, length-map}
+use lib.ListN.{length, getD, take, drop, set, replicate}
 use lib.Seq.{sets, length-take-le}
 use Rattle.fields.specs.Fields.{every, numeral}
 use Rattle.listlaws.proofs.Loops.{first-rest}
 use Rattle.number_lists.specs.NumberList.{isNumber, brokenList, listWith, listOf}
 use Rattle.number_lists.proofs.Listing.{sets-padded}
 use Rattle.number_lists.proofs.ListLaws.{list-listed}
-use Rattle.call_fields.specs.CallFields.{brokenCalendar, calendarWith, calendarIn}
+use Rattle.calendar_fields.specs.CalendarFields.{brokenCalendar, calendarWith, calendarIn}
 
 -- all of them are to come
 pub first-start : (values : List ℕ) → length values ≡ 256 → sets (replicate 24 0) 0 (take 24 values) ≡ take 24 values

@@ -3,8 +3,8 @@ use borrow.Author.Needs.{needs}
 use borrow.Author.Tests.{eq-eqb, ne-eqb}
 use mathlib.Core.Bool.{and-false}
 use mathlib.Core.Path.{_∙_}
-use Rattle.call_fields.proofs.calendar_with.Statement.{statement}
-use Rattle.call_fields.proofs.calendar_with.Tie as tie
+use Rattle.calendar_fields.proofs.calendar_with.Statement.{statement}
+use Rattle.calendar_fields.proofs.calendar_with.Tie as tie
 
 broken-calendar-requires : tie.Need-broken-calendar-requires
 broken-calendar-requires c κs = search needs

@@ -8,9 +8,9 @@ use borrow.Author.Tests.{not-true, not-false}
 use lib.ListN.{length, drop, drop-of-length-le}
 use Rattle.channel_rules.specs.Soundness.{sameMarks}
 use Rattle.listlaws.proofs.Loops.{rest}
-use Rattle.sound_counters.proofs.Comparing.{marks-next, marks-stop}
-use Rattle.sound_counters.proofs.same_marks.Statement.{statement}
-use Rattle.sound_counters.proofs.same_marks.Tie as tie
+use Rattle.same_counters.proofs.Comparing.{marks-next, marks-stop}
+use Rattle.same_counters.proofs.same_marks.Statement.{statement}
+use Rattle.same_counters.proofs.same_marks.Tie as tie
 
 abbrev Inv-loop : tie.InvT-loop
 Inv-loop a b i₀ i = (i ≤ 8) × (sameMarks (drop i a) (drop i b) ≡ sameMarks a b)

@@ -2,8 +2,8 @@
 use mathlib.Core.Path.{_≡_, refl}
 use mathlib.Core.Bool.{Bool, true, false, Bool·beq}
 use borrow.Author.Needs.{needs}
-use Rattle.sound_counters.proofs.same_mark.Statement.{statement}
-use Rattle.sound_counters.proofs.same_mark.Tie as tie
+use Rattle.same_counters.proofs.same_mark.Statement.{statement}
+use Rattle.same_counters.proofs.same_mark.Tie as tie
 
 as-is : (y : Bool) → y ≡ Bool·beq true y
 as-is true = refl

@@ -7,9 +7,9 @@ use borrow.Author.Needs.{needs}
 use lib.ListN.{length, take, drop, length-set}
 use lib.Seq.{sets}
 use Rattle.listlaws.proofs.Loops.{first-none}
-use Rattle.call_fields.proofs.CalendarReads.{first-start, first-next}
-use Rattle.call_fields.proofs.first_entries.Statement.{statement}
-use Rattle.call_fields.proofs.first_entries.Tie as tie
+use Rattle.calendar_fields.proofs.CalendarReads.{first-start, first-next}
+use Rattle.calendar_fields.proofs.first_entries.Statement.{statement}
+use Rattle.calendar_fields.proofs.first_entries.Tie as tie
 
 abbrev Inv-loop : tie.InvT-loop
 Inv-loop values entries₀ i₀ entries i =

@@ -1,10 +1,10 @@
 -- `calendar_fields` meets its contract: a calendar read by way of a list of numbers. Assumes nothing.
 use borrow.Author.Needs.{needs}
 use mathlib.Core.Path.{ap, _∙_}
-use Rattle.call_fields.specs.CallFields.{calendarWith}
-use Rattle.call_fields.proofs.CalendarReads.{calendar-read}
-use Rattle.call_fields.proofs.calendar_fields.Statement.{statement}
-use Rattle.call_fields.proofs.calendar_fields.Tie as tie
+use Rattle.calendar_fields.specs.CalendarFields.{calendarWith}
+use Rattle.calendar_fields.proofs.CalendarReads.{calendar-read}
+use Rattle.calendar_fields.proofs.calendar_fields.Statement.{statement}
+use Rattle.calendar_fields.proofs.calendar_fields.Tie as tie
 
 numbers-from-requires : tie.Need-numbers-from-requires
 numbers-from-requires c κs = search needs

@@ -1,30 +1,14 @@
--- Two records' counters compared number by number, and the counters of a table: those of its first record. Assumes nothing.
+-- The counters of a table: those of its first record. Assumes nothing.
 use mathlib.Core.Path.{_≡_, sym, ap, _∙_}
-use mathlib.Core.Bool.{Bool, true, false, Bool·beq}
-use mathlib.Core.List.{List, [], _∷_}
+use mathlib.Core.List.{List, []}
 use Prim.Native.Nat.{ℕ, _≤_}
-use lib.Dec.{eqb}
 use lib.ListN.{length, getD, take}
 use lib.Seq.{getD-take}
 use Rattle.listlaws.proofs.Beyond.{getD-any}
 use Rattle.rules.specs.declared.Station.{Station}
 use Rattle.rules.specs.declared.Condition.the-variants.{Free}
 use Rattle.rules.specs.StationCalls.{noStation}
-use Rattle.channel_rules.specs.Soundness.{tableCounters, sameNumbers, sameMarks}
-
-module _ {a b ra rb : List ℕ} {x y : ℕ} (e : a ≡ x ∷ ra) (f : b ≡ y ∷ rb) where
-  pub numbers-next : eqb x y ≡ true → sameNumbers a b ≡ sameNumbers ra rb
-  numbers-next h = rw (e, f, h)
-
-  pub numbers-stop : eqb x y ≡ false → sameNumbers a b ≡ false
-  numbers-stop h = rw (e, f, h)
-
-module _ {a b ra rb : List Bool} {x y : Bool} (e : a ≡ x ∷ ra) (f : b ≡ y ∷ rb) where
-  pub marks-next : Bool·beq x y ≡ true → sameMarks a b ≡ sameMarks ra rb
-  marks-next h = rw (e, f, h)
-
-  pub marks-stop : Bool·beq x y ≡ false → sameMarks a b ≡ false
-  marks-stop h = rw (e, f, h)
+use Rattle.channel_rules.specs.Soundness.{tableCounters}
 
 -- what a read past the end of a table would give: a record of zeros whose lists are empty
 abbrev pub blank : Station

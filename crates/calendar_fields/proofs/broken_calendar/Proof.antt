@@ -1,8 +1,8 @@
 -- `broken_calendar` meets its contract by computation. Assumes nothing.
 use mathlib.Core.Path.{refl}
-use Rattle.call_fields.specs.CallFields.{brokenCalendar}
-use Rattle.call_fields.proofs.broken_calendar.Statement.{statement}
-use Rattle.call_fields.proofs.broken_calendar.Tie as tie
+use Rattle.calendar_fields.specs.CalendarFields.{brokenCalendar}
+use Rattle.calendar_fields.proofs.broken_calendar.Statement.{statement}
+use Rattle.calendar_fields.proofs.broken_calendar.Tie as tie
 
 returns : tie.Need-returns
 unfolding brokenCalendar
