@@ -1,11 +1,9 @@
--- Two lists compared element by element: each pair of elements that are the same leaves the rest to compare, a pair that differs ends it, and
--- lists of different lengths never compare as the same. Assumes nothing.
-use mathlib.Core.Path.{_≡_, refl, ap}
-use mathlib.Core.Bool.{Bool, true, false, Bool·beq, and-false}
-use mathlib.Core.List.{List, [], _∷_}
-use Prim.Native.Nat.{ℕ, suc}
+-- Two lists compared element by element: each pair of elements that are the same leaves the rest to compare, a pair that differs ends it. Assumes nothing.
+use mathlib.Core.Path.{_≡_}
+use mathlib.Core.Bool.{Bool, true, false, Bool·beq}
+use mathlib.Core.List.{List, _∷_}
+use Prim.Native.Nat.{ℕ}
 use lib.Dec.{eqb}
-use lib.ListN.{length}
 use Rattle.channel_rules.specs.Soundness.{sameNumbers, sameMarks}
 
 module _ {a b ra rb : List ℕ} {x y : ℕ} (e : a ≡ x ∷ ra) (f : b ≡ y ∷ rb) where
@@ -14,12 +12,6 @@ module _ {a b ra rb : List ℕ} {x y : ℕ} (e : a ≡ x ∷ ra) (f : b ≡ y �
 
   pub numbers-stop : eqb x y ≡ false → sameNumbers a b ≡ false
   numbers-stop h = rw (e, f, h)
-
-pub lengths-differ : (a b : List ℕ) → (length a ≡ length b → ⊥) → sameNumbers a b ≡ false
-lengths-differ [] [] h = absurd (h refl)
-lengths-differ [] (y ∷ b) h = refl
-lengths-differ (x ∷ a) [] h = refl
-lengths-differ (x ∷ a) (y ∷ b) h = rw (lengths-differ a b (λ e. h (ap suc e))) (and-false (eqb x y))
 
 module _ {a b ra rb : List Bool} {x y : Bool} (e : a ≡ x ∷ ra) (f : b ≡ y ∷ rb) where
   pub marks-next : Bool·beq x y ≡ true → sameMarks a b ≡ sameMarks ra rb

@@ -1,5 +1,6 @@
 // Whether two stations' counters are the same (paper 01, "The channel"; paper 02, T-02): m, n, next group, counters, Open marks, calendar
 // and position.
+use calendars::POSITIONS;
 use drawing::MOST_GROUPS;
 use rules::Counters;
 ghost use mathlib.Core.Path.{_≡_};
@@ -7,15 +8,11 @@ ghost use mathlib.Core.Bool.{_&&_, Bool·beq};
 ghost use lib.Dec.{eqb};
 ghost use Rattle.channel_rules.specs.Soundness.{sameNumbers, sameMarks, sameCounters};
 
-// Whether two lists have the same numbers, one by one. Lists of different lengths have not.
-fn same_numbers(a: &[u16], b: &[u16]) -> bool
-    ensures { λ r. ⌜ r ≡ sameNumbers (now (a .entry)) (now (b .entry)) ⌝ }
+fn same_numbers(a: [u16; 8], b: [u16; 8]) -> bool
+    ensures { λ r. ⌜ r ≡ sameNumbers a b ⌝ }
 {
-    if a.len() != b.len() {
-        return false;
-    }
     let mut i: usize = 0;
-    while i < a.len() {
+    while i < MOST_GROUPS {
         if a[i] != b[i] {
             return false;
         }
@@ -45,20 +42,34 @@ fn same_marks(a: [bool; 8], b: [bool; 8]) -> bool
     true
 }
 
+// The same for the entries of two calendars. Arrays, not parts that are lent: a table compares 64 of them.
+fn same_entries(a: [u16; 24], b: [u16; 24]) -> bool
+    ensures { λ r. ⌜ r ≡ sameNumbers a b ⌝ }
+{
+    let mut i: usize = 0;
+    while i < POSITIONS {
+        if a[i] != b[i] {
+            return false;
+        }
+        i += 1;
+    }
+    true
+}
+
 // The same calendar, and the same position in it.
 fn same_calendar(a: Counters, b: Counters) -> bool
     ensures { λ r. ⌜ r ≡ (sameNumbers (a .calendar) (b .calendar) && eqb (a .position) (b .position)) ⌝ }
 {
     let x = a.calendar;
     let y = b.calendar;
-    if same_numbers(&x, &y) {
+    if same_entries(x, y) {
         a.position == b.position
     } else {
         false
     }
 }
 
-// Whether all of two stations' counters are the same.
+// Whether two records of counters are the same.
 pub fn same_counters(a: Counters, b: Counters) -> bool
     ensures { λ r. ⌜ r ≡ sameCounters a b ⌝ }
 {
@@ -79,7 +90,7 @@ pub fn same_counters(a: Counters, b: Counters) -> bool
     }
     let p = a.resolution;
     let q = b.resolution;
-    if !same_numbers(&p, &q) {
+    if !same_numbers(p, q) {
         return false;
     }
     let u = a.opened;
