@@ -447,6 +447,12 @@ def main():
     for place in (0, 1, 2):
         case_at(plain(3, 1, 1, 0, 0), [62, 63, 31, 0, 95], [0, 1, 255, 0, 2], place)
 
+    # the heaviest rows, in an open slot: eight Collides, weight 16; and 15, seven of them and a Single of 1, which is queued
+    for words, counts in (([4095] * 8, [0] * 8), ([127, 1] * 4, [0] * 8), ([63] + [127] * 7, [1] + [0] * 7), ([31] * 7 + [63], [0] * 7 + [1])):
+        case(plain(8, 1, 1, 0, 0), words, counts)
+    for place in (0, 1):
+        case_at(plain(8, 1, 1, 0, 0), [63] + [127] * 8, [1] + [0] * 8, place)
+
     # 7, and what is just within: H, N, RQ
     def places(record, words, counts):
         for place in (0, 2):

@@ -107,6 +107,12 @@ HEARD = (
     ([1, 3, 7], [0, 1, 255], 3),
     ([1, 63, 2080, 0, 15, 127, 31, 2730], [0, 1, 255, 0, 7, 0, 1, 17], 8),
 )
+# the heaviest row of each length, clicks among its Collides; and the heaviest with a Single, first and last
+HEAVY = tuple((([127, 1] * 4)[:m], [0] * m, m) for m in range(2, 9)) + (
+    ([1, 3, 7, 15, 31, 127, 2047, 4095], [255] * 8, 8),
+    ([63] + [127] * 7, [1] * 8, 8),
+    ([31] * 7 + [4032], [0] * 7 + [255], 8),
+)
 WRONG_LENGTH = (
     ([63], [1], 2),
     ([63, 95, 0], [1, 3, 0], 2),
@@ -136,6 +142,15 @@ BAD = (
     ([63, 95, 127, 0, 4032, 1365, 4032, 1], [1, 3, 0, 0, 255, 2, 0, 1], 8),
     ([63, 95, 127, 0, 4032, 1365, 4095, 0], [1, 3, 0, 0, 255, 2, 6, 255], 8),
 )
+
+
+def weighing(weight):
+    """Eight minislots of this weight: Collides, a Single where it is odd, and Empty up to the last."""
+    minislots = [(4095, 0)] * (weight // 2) + [(63, 1)] * (weight % 2)
+    minislots += [(0, 0)] * (8 - len(minislots))
+    return [word for word, _ in minislots], [count for _, count in minislots], 8
+
+
 STARTS = (
     (0, 2), (1, 2), (1, 3), (3, 3), (1, 8), (2, 8), (7, 3), (8, 2), (0, 8),
     (3, 8), (9, 2), (10, 2), (10, 0), (11, 2), (11, 0), (LARGEST, 2), (LARGEST - 1, 2), (LARGEST, 255),
@@ -161,7 +176,7 @@ def recordings():
 def lines():
     yield from minislots()
     yield from digests()
-    for words, counts, m in HEARD + WRONG_LENGTH + BAD:
+    for words, counts, m in HEARD + tuple(map(weighing, range(17))) + HEAVY + WRONG_LENGTH + BAD:
         yield row(words, counts, m)
     yield from recordings()
 

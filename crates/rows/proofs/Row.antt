@@ -1,4 +1,4 @@
--- Reading a row one minislot after the other: what one more minislot does to the feedback, the weight and the array, and which number the
+-- Reading a row one minislot after the other: what one more minislot does to the feedback and the array, and which number the
 -- first refused one gives. By induction on the readings before it.
 -- Assumes nothing.
 use mathlib.Core.Path.{_≡_, refl, ap, _∙_, sym}
@@ -12,12 +12,11 @@ use lib.Dec.{leb, eqb}
 use lib.ListN.{length, getD, set, take, drop}
 use lib.Seq.{take-suc, split-at, length-take-le}
 use Rattle.minislot.specs.declared.Feedback.{Feedback}
-use Rattle.minislot.specs.declared.Feedback.the-variants.{Empty, Single, Collide}
 use Rattle.minislot.specs.declared.Reading.{Reading}
 use Rattle.minislot.specs.declared.Reading.the-variants.{Heard, Refused}
 use Rattle.minislot.specs.declared.MinislotFeedback.{MinislotFeedback}
 use Rattle.minislot.specs.Reading.{readingOf}
-use Rattle.rows.specs.Row.{readings, firstNumber, feedbacks, weight, weightOf, padded, feedbackIn, rowAnswer, minislotsOf, hasMinislots, rowOf}
+use Rattle.rows.specs.Row.{readings, firstNumber, feedbacks, padded, feedbackIn, rowAnswer, minislotsOf, hasMinislots, rowOf}
 
 -- ---- the readings of a row
 
@@ -37,22 +36,11 @@ readings-at (w ∷ words) (c ∷ counts) (suc j) d e h = readings-at words count
 
 -- ---- one more minislot that is heard
 
--- a minislot weighs at most 2
-pub weight-few : (f : Feedback) → weightOf f ≤ 2
-weight-few Empty = omega arith
-weight-few (Single i c) = omega arith
-weight-few Collide = omega arith
-
 feedbacks-more : (l : List Reading) (f : Feedback) → feedbacks (l ++ (Heard f ∷ [])) ≡ feedbacks l ++ (f ∷ [])
 unfolding feedbacks
 feedbacks-more [] f = refl
 feedbacks-more (Heard g ∷ l) f = ap (λ (r : List Feedback). g ∷ r) (feedbacks-more l f)
 feedbacks-more (Refused n ∷ l) f = feedbacks-more l f
-
-weight-more : (l : List Feedback) (f : Feedback) → weight (l ++ (f ∷ [])) ≡ weight l + weightOf f
-unfolding weight
-weight-more [] f = omega arith
-weight-more (g ∷ l) f = omega (arith, weight-more l f)
 
 padded-more : (n : ℕ) (l : List Feedback) (f : Feedback) → length l < n
     → padded n (l ++ (f ∷ [])) ≡ set (padded n l) (length l) (record { feedback = f })
@@ -81,9 +69,6 @@ module _ (l : List Reading) (j : ℕ) (f : Feedback) (d : Reading) (within : j <
   pub heard-count : length (feedbacks (take j l)) ≡ j → length (feedbacks (take (suc j) l)) ≡ suc j
   heard-count e = rw heard-feedbacks (length-more (feedbacks (take j l)) f ∙ ap suc e)
 
-  pub heard-weight : weight (feedbacks (take (suc j) l)) ≡ weight (feedbacks (take j l)) + weightOf f
-  heard-weight = rw heard-feedbacks (weight-more (feedbacks (take j l)) f)
-
   pub heard-padded : (n : ℕ) → length (feedbacks (take j l)) ≡ j → j < n
       → padded n (feedbacks (take (suc j) l)) ≡ set (padded n (feedbacks (take j l))) j (record { feedback = f })
   heard-padded n e h =
@@ -93,7 +78,7 @@ module _ (l : List Reading) (j : ℕ) (f : Feedback) (d : Reading) (within : j <
 
 -- ---- the first that is refused
 
-feedbacks-fewer : (l : List Reading) → length (feedbacks l) ≤ length l
+pub feedbacks-fewer : (l : List Reading) → length (feedbacks l) ≤ length l
 unfolding feedbacks
 feedbacks-fewer [] = omega arith
 feedbacks-fewer (Heard f ∷ l) = omega (arith, feedbacks-fewer l)

@@ -8,17 +8,27 @@ ghost use mathlib.Core.Path.{_≡_};
 ghost use mathlib.Core.List.{[]};
 ghost use Prim.Native.Nat.{_≤_};
 ghost use lib.ListN.{length};
-ghost use Rattle.rows.specs.Row.{minislotsOf, rowOf, rowAnswer, weightOf};
+ghost use Rattle.rows.specs.Row.{minislotsOf, rowOf, rowAnswer, weight, feedbackIn};
 
-// What a minislot adds to its row's weight.
-fn weight_of(feedback: Feedback) -> u8
-    ensures { λ r. ⌜ r ≡ weightOf feedback ⌝ }
+// The weight of a row: its Singles plus twice its Collides. The tally is a byte and no sum of it wraps: a row has at most 8 minislots and
+// each adds at most 2, so that it never passes 16, which eight Collides reach (`weight-fits`). The places after a row's last minislot are
+// Empty and add nothing.
+fn weigh(minislots: [MinislotFeedback; 8]) -> u8
+    ensures { λ r. ⌜ r ≡ weight (feedbackIn minislots) ⌝ }
 {
-    match feedback {
-        Feedback::Empty => 0,
-        Feedback::Single(_, _) => 1,
-        Feedback::Collide => 2,
+    let mut tally: u8 = 0;
+    let mut i: usize = 0;
+    while i < 8 {
+        let minislot = minislots[i];
+        let feedback = minislot.feedback;
+        tally += match feedback {
+            Feedback::Empty => 0,
+            Feedback::Single(_, _) => 1,
+            Feedback::Collide => 2,
+        };
+        i += 1;
     }
+    tally
 }
 
 // A row that is refused: its number, and nothing heard.
@@ -62,13 +72,11 @@ fn read_minislots(words: &[u16], counts: &[u8], n: usize) -> RowReading
     let mut minislots = [MinislotFeedback {
         feedback: Feedback::Empty,
     }; 8];
-    let mut weight: u8 = 0;
     let mut j: usize = 0;
     while j < n {
         match read(words[j], counts[j]) {
             Reading::Heard(feedback) => {
                 minislots[j] = MinislotFeedback { feedback };
-                weight += weight_of(feedback);
             }
             Reading::Refused(number) => {
                 return refused(number);
@@ -78,7 +86,7 @@ fn read_minislots(words: &[u16], counts: &[u8], n: usize) -> RowReading
     }
     RowReading {
         number: 0,
-        weight,
+        weight: weigh(minislots),
         minislots,
     }
 }
