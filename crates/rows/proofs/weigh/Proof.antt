@@ -1,5 +1,5 @@
--- `weigh` sums the weights of the eight places in order. After i of them the tally is the weight of the first i, which is at most 16, so that
--- no sum passes a byte.
+-- `weigh` sums the weights of the eight places in order. After i of them the tally is the weight of the first i, which is at most 16
+-- (`weight-fits`), so that no sum passes a byte, nor would one of any tally that holds 16.
 -- Assumes nothing.
 use mathlib.Core.Path.{_≡_, refl, ap, _∙_, sym}
 use mathlib.Core.Logic.{⊎-elim}
@@ -65,12 +65,15 @@ summed c =
     (sym (weight-next (feedbackIn row) (l .i) (rw length-map (omega arith))))
 
 -- and at most 16
-add-tally : tie.Need-add-tally Inv-loop μ-loop
-add-tally c =
+fits : (c : tie.After-row-known Inv-loop μ-loop) → c .before .before .before .before .loop .tally + c .before .match .tally ≤ 16
+fits c =
     let i = c .before .before .before .before .loop .i in
     let row = feedbackIn (c .before .before .before .before .before .args .t1) in
     let few : length (take (suc i) row) ≤ 8 = rw length-take (omega arith) in
     omega (arith, summed c, weight-fits .most (take (suc i) row) few)
+
+add-tally : tie.Need-add-tally Inv-loop μ-loop
+add-tally c = omega (arith, fits c)
 
 add-i : tie.Need-add-i Inv-loop μ-loop
 add-i c = search needs
@@ -79,7 +82,7 @@ loop-less : tie.Need-loop-less Inv-loop μ-loop
 loop-less c = search needs
 
 loop-again : tie.Need-loop-again Inv-loop μ-loop
-loop-again c = (omega arith, rw add-one (omega (arith, summed c)))
+loop-again c = (omega arith, rw add-one (omega (arith, summed c, fits c)))
 
 returns : tie.Need-returns Inv-loop μ-loop
 returns c =
