@@ -1,5 +1,5 @@
--- `weigh` sums the weights of the eight places in order. After i of them the tally is the weight of the first i, which is at most 16
--- (`weight-fits`), so that no sum passes a byte, nor would one of any tally that holds 16.
+-- `weigh` sums the weights of the eight places in order. After i of them the tally is the weight of the first i. A sum is at most 16
+-- (`weight-fits`), so that none passes a byte.
 -- Assumes nothing.
 use mathlib.Core.Path.{_≡_, refl, ap, _∙_, sym}
 use mathlib.Core.Logic.{⊎-elim}
@@ -81,6 +81,8 @@ add-i c = search needs
 loop-less : tie.Need-loop-less Inv-loop μ-loop
 loop-less c = search needs
 
+-- The sum is the tally as it stands; the bound is handed over for the must-fail edit, which takes the tally modulo 16. With it such a
+-- tally is refused at a sum of 16, and one modulo 17 or more is not.
 loop-again : tie.Need-loop-again Inv-loop μ-loop
 loop-again c = (omega arith, rw add-one (omega (arith, summed c, fits c)))
 
