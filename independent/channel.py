@@ -6,28 +6,33 @@ the row that the wire has; the requests that the boxes answer make the new row. 
 """
 import copy
 
-from station import FREE, NOBODY, WORDS, Refusal, blank, fits, nothing, offer, owned_text, owners_of, owning, put, put_record, read, slot
+from station import FREE, NOBODY, RECORDS, UNUSED, WORDS, Refusal, alone, blank, fits, nothing, offer, owned_text, owners_of, owning, put, put_record, read, slot
 
 
 # ---- sound tables
 
+def messages(boxes):
+    """Each message record of each box: the box's index and the condition."""
+    return [(box["index"], box[name]) for box in boxes for name in RECORDS]
+
+
 def places_of(boxes, kind):
-    """The places that each box of a kind stands at."""
+    """The places that messages of a kind stand at."""
     found = []
-    for box in boxes:
-        if box["is"][0] == kind == "urgent":
-            found.append(box["is"][1])
-        if box["is"][0] == kind == "long":
-            found += range(box["is"][1], box["is"][1] + box["is"][2])
+    for _, condition in messages(boxes):
+        if condition[0] == kind == "urgent":
+            found.append(condition[1])
+        if condition[0] == kind == "long":
+            found += range(condition[1], condition[1] + condition[2])
     return sorted(found)
 
 
 def minislot_of(boxes, g, j):
     word = count = 0
-    for box in boxes:
-        if box["is"][0] == "asked" and box["is"][1:3] == (g, j):
-            word |= WORDS[box["index"]]
-            count |= box["is"][3]
+    for index, condition in messages(boxes):
+        if condition[:3] == ("asked", g, j):
+            word |= WORDS[index]
+            count |= condition[3]
     return (word, count)
 
 
@@ -42,9 +47,9 @@ def sound(boxes, wire):
     if places_of(boxes, "urgent") != list(range(1, first["H"] + 1)) or places_of(boxes, "long") != list(range(1, first["N"] + 1)):
         return False
     for g in range(1, first["n"] + 1):
-        there = [box["is"][2] for box in boxes if box["is"][0] == "resolving" and box["is"][1] == g]
-        if any(there.count(place) < 2 for place in range(1, first["RQ"][g - 1] + 1)):
-            return False
+        for place in range(1, first["RQ"][g - 1] + 1):
+            if len({index for index, condition in messages(boxes) if condition[:3] == ("resolving", g, place)}) < 2:
+                return False
     return all(wire[g - 1][j - 1] == minislot_of(boxes, g, j) for g in range(1, 9) for j in range(1, 9))
 
 
@@ -201,21 +206,16 @@ def slot6(ch, p, q, r):
 
 # ---- tables that calls are tried on
 
-def box_of(index, condition, H=1, N=3, RQ1=1, RQ2=0, m=2, nxt=1, open1=True):
+def box_of(index, short=UNUSED, long=UNUSED, H=1, N=3, RQ1=1, RQ2=0, m=2, nxt=1, open1=True):
     box = blank(m, 2, index)
-    box.update(next=nxt, H=H, N=N, RQ=[RQ1, RQ2] + [0] * 6, Open=[open1] + [True] * 7)
-    box["is"] = condition
+    box.update(next=nxt, H=H, N=N, RQ=[RQ1, RQ2] + [0] * 6, Open=[open1] + [True] * 7, short=short, long=long)
     return box
 
 
 def base():
-    boxes = [
-        box_of(100, ("urgent", 1)), box_of(200, ("long", 1, 3, 3)), box_of(300, ("resolving", 1, 1, 1)),
-        box_of(400, ("resolving", 1, 1, 2)), box_of(500, ("asked", 2, 1, 5)), box_of(600, ("free",)),
-    ]
-    wire = silent()
-    wire[1][0] = (WORDS[500], 5)
-    return Channel(boxes, wire)
+    """Six boxes with at most one message each, in every condition but fresh."""
+    conditions = (("urgent", 1), ("long", 1, 3, 3), ("resolving", 1, 1, 1), ("resolving", 1, 1, 2), ("asked", 2, 1, 5), UNUSED)
+    return Channel([box_of(100 * k, *alone(condition)) for k, condition in enumerate(conditions, start=1)], silent()).with_minislot(1, 0, WORDS[500], 5)
 
 
 def upward(first, count):
@@ -247,6 +247,7 @@ def starts():
 
 
 def offers():
+    """14, 16, 10, and 9 by the record that the length picks."""
     ch = base()
     offered(ch, 500, 0)
     offered(ch, 50, 49)
@@ -256,6 +257,8 @@ def offers():
     offered(offered(ch, 600, 12240), 600, 1)
     offered(ch.with_count(0), 50, 0)
     offered(ch.with_count(65), 50, 0)
+    for index in (100, 200, 300, 400, 500):
+        offered(offered(ch, index, 48), index, 49)
 
 
 def slots_refused():
@@ -276,19 +279,45 @@ def unsound(ch):
 
 
 def unsound_tables():
-    ch, free = base(), ("free",)
+    """18, by one clause at a time: records and their queues, a record's kind, what two records share, the wire."""
+    ch = base()
     for box in (
-        box_of(200, free), box_of(924, free), box_of(600, free, H=2), box_of(600, free, N=4), box_of(600, free, RQ1=2), box_of(600, free, RQ2=1),
-        box_of(600, free, m=3), box_of(600, free, nxt=2), box_of(600, free, open1=False),
+        box_of(200), box_of(924), box_of(600, H=2), box_of(600, N=4), box_of(600, RQ1=2), box_of(600, RQ2=1), box_of(600, m=3), box_of(600, nxt=2), box_of(600, open1=False),
     ):
         unsound(ch.with_box(5, box))
     for k, index, condition in (
-        (0, 100, free), (5, 600, ("urgent", 1)),
+        (0, 100, UNUSED), (5, 600, ("urgent", 1)),
         (5, 600, ("long", 3, 1, 2)), (1, 200, ("long", 1, 2, 3)), (1, 200, ("long", 2, 2, 3)),
-        (3, 400, free), (3, 400, ("resolving", 2, 1, 1)),
+        (3, 400, UNUSED), (3, 400, ("resolving", 2, 1, 1)),
         (4, 500, ("asked", 1, 1, 5)), (4, 500, ("asked", 2, 2, 5)), (4, 500, ("asked", 2, 1, 4)), (5, 600, ("asked", 2, 1, 5)),
     ):
-        unsound(ch.with_box(k, box_of(index, condition)))
+        unsound(ch.with_box(k, box_of(index, *alone(condition))))
+    # a message in a record of the other kind, its queue and the wire being as they should
+    for k, index, short, long in (
+        (5, 600, ("fresh", 2), UNUSED), (5, 600, UNUSED, ("fresh", 1)), (0, 100, UNUSED, ("urgent", 1)), (1, 200, ("long", 1, 3, 3), UNUSED),
+        (2, 300, UNUSED, ("resolving", 1, 1, 1)), (3, 400, ("resolving", 1, 1, 2), UNUSED), (4, 500, ("asked", 2, 1, 5), UNUSED),
+    ):
+        unsound(ch.with_box(k, box_of(index, short, long)))
+    unsound(ch.with_box(4, box_of(500, UNUSED, ("asked", 2, 1, 1))).with_minislot(1, 0, WORDS[500], 1))
+    # a second message at a place that its queue has not, or asked in a group or minislot that the channel has not
+    for k, index, short, long in (
+        (1, 200, ("urgent", 2), ("long", 1, 3, 3)), (1, 200, ("resolving", 1, 2, 1), ("long", 1, 3, 3)),
+        (0, 100, ("urgent", 1), ("resolving", 3, 1, 2)), (0, 100, ("urgent", 1), ("long", 4, 1, 2)),
+    ):
+        unsound(ch.with_box(k, box_of(index, short, long)))
+    unsound(ch.with_box(1, box_of(200, ("asked", 3, 1, 1), ("long", 1, 3, 3))).with_minislot(2, 0, WORDS[200], 1))
+    unsound(ch.with_box(0, box_of(100, ("urgent", 1), ("asked", 1, 3, 2))).with_minislot(0, 2, WORDS[100], 2))
+    # the two of a box at one resolution place, with another box and without; and asked in one group, in two minislots and in one
+    both = ch.with_box(2, box_of(300, ("resolving", 1, 1, 1), ("resolving", 1, 1, 2)))
+    unsound(both)
+    unsound(both.with_box(3, box_of(400)))
+    unsound(ch.with_box(4, box_of(500, ("asked", 2, 2, 1), ("asked", 2, 1, 5))).with_minislot(1, 1, WORDS[500], 1))
+    unsound(ch.with_box(4, box_of(500, ("asked", 2, 1, 1), ("asked", 2, 1, 5))))
+    # asked in two groups: the wire has one of the two, or the one's total where the other was asked
+    both = ch.with_box(4, box_of(500, ("asked", 1, 2, 1), ("asked", 2, 1, 5)))
+    unsound(both)
+    unsound(both.with_minislot(0, 1, WORDS[500], 5))
+    unsound(both.with_minislot(0, 1, WORDS[500], 1).with_minislot(1, 0, 0, 0))
     for minislot in ((1, 0, 0, 0), (1, 0, 63, 5), (0, 1, 63, 1), (0, 1, 0, 1), (1, 2, 63, 1), (2, 0, 63, 1), (7, 7, 65535, 255)):
         unsound(ch.with_minislot(*minislot))
 
@@ -374,8 +403,9 @@ def unsound_calendars():
         tried(ch.with_box(k, dict(ch.boxes[k], position=position, calendar=entries)))
     ch = base()
     for other in (
-        ch.with_box(5, box_of(200, ("free",))), ch.with_box(5, box_of(600, ("free",), H=2)), ch.with_box(0, box_of(100, ("free",))),
-        ch.with_box(3, box_of(400, ("free",))), ch.with_minislot(1, 0, 0, 0),
+        ch.with_box(5, box_of(200)), ch.with_box(5, box_of(600, H=2)), ch.with_box(0, box_of(100)), ch.with_box(3, box_of(400)), ch.with_minislot(1, 0, 0, 0),
+        ch.with_box(5, box_of(600, ("fresh", 2))), ch.with_box(0, box_of(100, UNUSED, ("urgent", 1))), ch.with_box(2, box_of(300, ("resolving", 1, 1, 1), ("resolving", 1, 1, 2))),
+        ch.with_box(4, box_of(500, ("asked", 2, 1, 1), ("asked", 2, 1, 5))),
     ):
         calendared(other, NOBODY)
 
@@ -425,15 +455,95 @@ def streams_from_the_start():
     show(ch)
 
 
-starts_refused()
-starts()
-offers()
-slots_refused()
-unsound_tables()
-served()
-from_the_start()
-calendars_set()
-calendars_refused()
-unsound_calendars()
-streams_served()
-streams_from_the_start()
+# ---- two messages a box
+
+def doubled():
+    """Eight boxes, seven of them with two messages: in an urgent and the long queue, in two resolution queues, at two places of one, asked in two groups, fresh."""
+    conditions = (
+        (("urgent", 1), ("long", 1, 3, 3)), (("urgent", 2), ("resolving", 1, 1, 4)), (("resolving", 1, 1, 1), ("resolving", 1, 2, 2)),
+        (("resolving", 1, 2, 1), ("resolving", 2, 1, 3)), (("asked", 1, 1, 1), ("asked", 2, 1, 5)), (("resolving", 2, 1, 1), ("long", 4, 2, 7)),
+        (("fresh", 1), ("fresh", 2)), (("asked", 2, 2, 1), UNUSED),
+    )
+    ch = Channel([doubled_box(k, *both) for k, both in enumerate(conditions)], silent())
+    return ch.with_minislot(0, 0, WORDS[500], 1).with_minislot(1, 0, WORDS[500], 5).with_minislot(1, 1, WORDS[800], 1)
+
+
+def doubled_box(k, short, long):
+    return box_of(100 * k + 100, short, long, H=2, N=5, RQ1=2, RQ2=1)
+
+
+def offers_to_two():
+    """16, 10, and 9 of each kind, on that table; then the box that has a short message takes a long one."""
+    ch = doubled()
+    put_table(ch)
+    for index, size in ((50, 0), (100, 0), (300, 12241), (100, 1), (100, 49), (700, 48), (700, 12240), (800, 48)):
+        offered(ch, index, size)
+    offered(offered(ch, 800, 49), 800, 50)
+
+
+def unsound_with_two():
+    """18: a resolution place of one box alone, an urgent place of two messages, the two of a box at one place."""
+    ch = doubled()
+    for k, short, long in (
+        (3, UNUSED, ("resolving", 2, 1, 3)), (5, UNUSED, ("long", 4, 2, 7)), (5, ("urgent", 2), ("long", 4, 2, 7)), (2, ("resolving", 1, 2, 1), ("resolving", 1, 2, 2)),
+    ):
+        unsound(ch.with_box(k, doubled_box(k, short, long)))
+
+
+def served_doubled():
+    """Two messages a box: in one resolution queue one after the other; one that leaves by the urgent queue while the other asks, or waits in the long queue."""
+    ch = doubled()
+    for picks in ((1, 1, 1, 1, 1, 1, 2, 2), (1, 2, 1, 1, 1, 2, 1, 1), (1, 1, 1, 2, 1, 1, 2, 2), (1, 2, 1, 2, 1, 1, 1, 1)):
+        ch = slotted(ch, *picks)
+    ch = offered(ch, 800, 97)
+    ch = offered(ch, 100, 1)
+    for picks in ((1, 2, 1, 2, 1, 2, 1, 2), (2, 2, 1, 1, 1, 2, 1, 1), (1, 1, 2, 2, 1, 1, 2, 2), (1, 2, 1, 2, 1, 2, 1, 2), *[[1] * 8] * 3):
+        ch = slotted(ch, *picks)
+
+
+def both_from_the_start():
+    """Two boxes with two messages each: the short ones ask in group 1 and collide, the long ones in group 2; the short ones overtake in the urgent queue."""
+    ch = begun(EMPTY_TABLE.with_count(2), 2, 2, [7, 8])
+    for index, size in ((7, 97), (7, 1), (8, 49), (8, 48)):
+        ch = offered(ch, index, size)
+    ch = slotted(ch, 1, 1)
+    ch = slotted(ch, 1, 2)
+    for index, size in ((7, 48), (8, 50), (7, 0), (8, 12241)):
+        ch = offered(ch, index, size)
+    for picks in ((1, 2), (1, 1), (1, 1), (1, 1)):
+        ch = slotted(ch, *picks)
+    ch = offered(ch, 7, 20)
+    for picks in ((2, 1), (1, 1), (1, 1), (1, 1), (1, 1), (1, 1), (1, 1)):
+        ch = slotted(ch, *picks)
+
+
+def streams_beside_two_messages():
+    """Owned slots of boxes with two messages: nothing of either is sent, and the requests go on."""
+    ch = everywhere(doubled(), 5, owning(p5=100, p6=700, p8=300))
+    for picks in ((1, 1, 1, 1, 1, 1, 2, 2), (1, 2, 1, 1, 1, 2, 1, 1), (1, 1, 1, 2, 1, 1, 2, 2), (1, 2, 1, 2, 1, 1, 1, 1), (1, 2, 1, 2, 1, 2, 1, 2)):
+        ch = slotted(ch, *picks)
+    show(ch)
+
+
+def main():
+    starts_refused()
+    starts()
+    offers()
+    slots_refused()
+    unsound_tables()
+    served()
+    from_the_start()
+    calendars_set()
+    calendars_refused()
+    unsound_calendars()
+    streams_served()
+    streams_from_the_start()
+    offers_to_two()
+    unsound_with_two()
+    served_doubled()
+    both_from_the_start()
+    streams_beside_two_messages()
+
+
+if __name__ == "__main__":
+    main()

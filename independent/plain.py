@@ -1,14 +1,21 @@
 """The plain channel of the papers, from their sentences and not from the Rattle programs: queues of messages, fed only a start and each call's arguments.
 
-A message is a dict with its box, its slots and how many of them were delivered. Conditions, counters and the wire are read off the queues. The calendar is
-kept as it was set, and beside it how many slots there were since the start: their remainder by 24 is the position.
+A message is a dict with its box, its slots and how many of them were delivered. Its slots say which of the box's two records it has: a message of one slot
+the short one, any other the long one. Conditions, counters and the wire are read off the queues. The calendar is kept as it was set, and beside it how many
+slots there were since the start: their remainder by 24 is the position.
 """
 WORDS = [w for w in range(4096) if format(w, "b").count("1") == 6]
 FREE = 65535  # the entry of a position without an owner
+SHORT, LONG = 0, 1  # a box's two records
 
 
 class Refusal(Exception):
     """The number of a refusal."""
+
+
+def record_of(message):
+    """Which of its box's records a message has."""
+    return SHORT if message["slots"] == 1 else LONG
 
 
 class Plain:
@@ -28,26 +35,26 @@ class Plain:
         self.asking = {g: {j: [] for j in range(1, m + 1)} for g in range(1, n + 1)}
         self.resolution = {g: [] for g in range(1, n + 1)}
         self.history = []
-        self.mine = [None] * boxes  # the message of each box that is not all delivered
+        self.mine = [[None, None] for _ in range(boxes)]  # the message of each box's record that is not all delivered
         self.entries, self.slots = [FREE] * 24, 0
 
     def deliver(self, message, segment):
         self.history.append((message, segment))
         message["delivered"] += 1
         if message["delivered"] == message["slots"]:
-            self.mine[message["box"]] = None
+            self.mine[message["box"]][record_of(message)] = None
 
     def offer(self, index, size):
         if index not in self.indexes:
             raise Refusal(16)
         box = self.indexes.index(index)
-        if self.mine[box] is not None:
-            raise Refusal(9)
         if not 1 <= size <= 12240:
             raise Refusal(10)
         message = {"box": box, "slots": (size + 47) // 48, "delivered": 0}
+        if self.mine[box][record_of(message)] is not None:
+            raise Refusal(9)
         self.fresh.append(message)
-        self.mine[box] = message
+        self.mine[box][record_of(message)] = message
         return message["slots"]
 
     def calendar(self, *entries):
@@ -91,7 +98,7 @@ class Plain:
         if RQ:
             ask = RQ.pop(0)
         else:
-            ask, self.fresh = self.fresh, []
+            ask, self.fresh = self.first_of_each_box()
         for message in ask:
             self.asking[g][picks[message["box"]]].append(message)
         sent = []
@@ -110,6 +117,14 @@ class Plain:
         lone = (self.indexes[sent[0][0]["box"]], sent[0][1]) if len(sent) == 1 else (0, 0)
         return (turn, len(sent)) + lone + (len(self.history) - before,)
 
+    def first_of_each_box(self):
+        """The fresh messages that ask, and those that stay fresh: of two of one box only the short one asks."""
+        with_short = {message["box"] for message in self.fresh if record_of(message) == SHORT}
+        ask, stay = [], []
+        for message in self.fresh:
+            (stay if record_of(message) == LONG and message["box"] in with_short else ask).append(message)
+        return ask, stay
+
     # ---- what the boxes and the wire must show of it
 
     def counters(self):
@@ -118,11 +133,11 @@ class Plain:
         return [self.m, self.n, self.group, len(self.urgent), len(self.long)] + lengths + [int(self.open.get(g, True)) for g in groups]
 
     def conditions(self):
-        """The condition of each box: where its message stands in the queues; free if none waits."""
-        found = [("free",)] * len(self.indexes)
+        """Two conditions for each box, the short record's and the long one's: where its message stands in the queues; free if none waits."""
+        found = [[("free",), ("free",)] for _ in self.indexes]
 
         def stands(message, *condition):
-            found[message["box"]] = condition
+            found[message["box"]][record_of(message)] = condition
 
         for message in self.fresh:
             stands(message, "fresh", message["slots"])
@@ -152,4 +167,4 @@ class Plain:
         return rows
 
     def waiting(self):
-        return sum(m["slots"] - m["delivered"] for m in self.mine if m is not None)
+        return sum(m["slots"] - m["delivered"] for records in self.mine for m in records if m is not None)

@@ -90,7 +90,7 @@ class Rehearsal:
         resolution, marks = rest[:8], rest[8:]
         out = [self.line("counters", m, n, following, H, N), self.line("owners", channel.slots % POSITIONS, *channel.entries)]
         out += [self.line("group", g, resolution[g - 1], "yes" if marks[g - 1] else "no") for g in range(1, n + 1)]
-        out += [self.line("message", index, *condition) for index, condition in zip(channel.indexes, channel.conditions())]
+        out += [self.line("message", index, *condition) for index, both in zip(channel.indexes, channel.conditions()) for condition in both]
         for g, row in enumerate(channel.wire()[:n], start=1):
             out.append(self.line("wire", g, *[x for minislot in row[:m] for x in minislot]))
         return b"".join(out)
@@ -172,9 +172,8 @@ def drawn_calendar(s, indexes):
 
 
 def driven(stations, m, n, slots, calendars=False):
-    """Offers, bad calls and slots by an arithmetic rule: first seldom an offer, then more of them, then many. A show now and then, before a slot or after it.
-
-    With calendars, one is set before some of the slots."""
+    """Offers, bad calls and slots by an arithmetic rule: first seldom an offer, then more of them, then many; often one of each kind to the same station. A show
+    now and then, before a slot or after it. With calendars, one is set before some of the slots."""
     indexes = [(331 * k + n) % 924 for k in range(stations)]
     calls = [start(m, n, indexes)]
     apart = 24
@@ -182,8 +181,9 @@ def driven(stations, m, n, slots, calendars=False):
         rarity = [8 * stations, 2 * stations, min(stations, 8)][s // 24 % 3]
         for k in range(stations):
             if draw(s, k, ARRIVES, rarity) == 0:
-                most = [48, 48, 48, 48, 48, 48, 96, 480][draw(s, k, KIND, 8)]
-                calls.append("offer,%d,%d" % (indexes[k], 1 + draw(s, k, SIZE, most)))
+                short, two_slots, longer = 1 + draw(s, k, SIZE, 48), 49 + draw(s, k, SIZE, 48), 49 + draw(s, k, SIZE, 432)
+                sizes = [(short,), (short,), (short,), (two_slots,), (short, two_slots), (two_slots, short), (short, two_slots), (longer, short)][draw(s, k, KIND, 8)]
+                calls += ["offer,%d,%d" % (indexes[k], size) for size in sizes]
         picks = [1 + draw(s, k, PICK, m) for k in range(stations + 1)]
         if draw(s, n, BAD, 6) == 0:
             k = draw(s, n, KIND, stations)
@@ -266,6 +266,61 @@ def walks():
     yield "sixty_four_in_eight_groups", lines(
         start(8, 8, MANY), "show", *["offer,%d,%d" % (index, 1 + 97 * k) for k, index in enumerate(MANY[:16])], BY_ROW, *["offer,%d,1" % index for index in MANY[16:40]],
         BY_ROW, BY_COLUMN, *["offer,%d,255" % index for index in MANY[40:]], BY_COLUMN, "show", *[BY_ROW, BY_COLUMN] * 12, "show")
+
+
+def pairs():
+    """Station 7 with its two records in each pair of conditions that a channel can reach, the short one's first. It is shown, then offered nothing and a message
+    of each kind, each of which is taken or refused by its own record; then slots until all is delivered.
+
+    A message is still urgent after the slot that heard it if another one was before it, and still resolving if another collision was.
+    """
+    short, long, silent = "offer,7,1", "offer,7,240", "slot,1,1,1,1"
+    late = "slot,2,1,1,2"  # 7 after 8; where all four ask, its collision with 10 after that of 8 and 9
+    parted = "slot,1,1,2,2"  # 7 and 10 are apart, and so are 8 and 9
+    others, other_longs = ["offer,%d,1" % i for i in (8, 9, 10)], ["offer,%d,49" % i for i in (8, 9, 10)]
+    queued = [long, silent, silent, silent]
+    for name, *calls in (
+        ("free_free",), ("free_fresh", long), ("free_asked", long, silent), ("free_long", *queued), ("free_resolving", long, *others, late, silent, silent),
+        ("fresh_free", short), ("fresh_fresh", long, short), ("fresh_asked", long, silent, short), ("fresh_long", *queued, short),
+        ("fresh_resolving", long, *others, late, silent, silent, short),
+        ("asked_free", short, silent), ("asked_fresh", long, short, silent), ("asked_asked", long, short, silent, silent), ("asked_long", *queued, short, silent),
+        ("asked_resolving", long, *others, late, short, silent, silent),
+        ("urgent_free", short, others[0], late, silent, silent), ("urgent_fresh", short, others[0], late, silent, silent, long),
+        ("urgent_asked", short, others[0], late, long, silent, silent), ("urgent_long", *queued, short, others[0], late, silent, silent),
+        ("urgent_resolving", long, *other_longs, late, short, others[0], late, silent, silent),
+        ("resolving_free", short, *others, late, silent, silent), ("resolving_fresh", short, *others, late, silent, silent, long),
+        ("resolving_asked", short, *others, late, long, silent, silent), ("resolving_long", short, *others, late, long, silent, silent, silent),
+        ("resolving_resolving", short, *others, late, long, *other_longs, late, silent, silent),
+    ):
+        yield "pair_" + name, lines("2,2,7,8,9,10", *calls, "show", "offer,7,0", "offer,7,48", "offer,7,49", *[parted] * 22, "show")
+
+
+def two_messages():
+    """A short and a long message of one station."""
+    yield "a_long_one_held_back_in_one_group", shown(ONE, "offer,7,97", "offer,7,1", *["slot,2"] * 6)
+    yield "a_long_one_held_back_asks_in_another_group", shown(
+        "2,3,7,8", "offer,7,48", "offer,7,49", "slot,2,1", "slot,1,1", "offer,8,1", "slot,1,1", "slot,1,2", "slot,1,1", "slot,1,1", "slot,1,1")
+    yield "a_long_one_held_back_again", shown(
+        TWO, "offer,7,97", "offer,7,1", "slot,1,1", "slot,1,1", "offer,7,2", "offer,8,49", "slot,2,2", "offer,7,3", "offer,7,49", "slot,1,2", *["slot,1,1"] * 6)
+    yield "a_long_one_held_back_by_a_collision", shown(TWO, "offer,7,97", "offer,7,1", "offer,8,1", "slot,1,1", "slot,1,1", "slot,1,2", *["slot,1,1"] * 6)
+    yield "of_two_stations_one_is_held_back", shown(TWO, "offer,7,1", "offer,7,49", "offer,8,50", "slot,1,1", "slot,2,1", "slot,1,1", *["slot,1,2"] * 6)
+    yield "offered_long_first_or_short_first", shown(TWO, "offer,7,49", "offer,8,48", "offer,8,49", "offer,7,48", "slot,1,2", *["slot,1,2"] * 8)
+    yield "a_short_one_overtakes_a_long_one", shown(
+        ONE, "offer,7,240", "slot,1", "slot,1", "offer,7,1", "slot,2", "slot,1", "offer,7,1", "slot,1", "slot,1", "slot,1", "slot,1", "offer,7,1", "slot,1", "slot,1")
+    yield "short_ones_overtake_in_turn", shown(
+        TWO, "offer,7,97", "offer,8,97", "slot,1,2", "slot,1,1", "offer,7,1", "offer,8,1", "slot,2,1", "slot,1,1", "slot,1,1", *["slot,1,1"] * 6)
+    yield "both_asked_in_two_groups", shown("2,2,7,8", "offer,7,1", "offer,7,97", "offer,8,49", "offer,8,1", "slot,1,2", "slot,2,1", "slot,1,1", "slot,1,1", *["slot,1,1"] * 7)
+    yield "both_collide_in_two_groups", shown("2,2,7,8", "offer,7,1", "offer,7,97", "offer,8,49", "offer,8,1", "slot,1,1", "slot,2,2", "slot,1,2", "slot,1,2", *["slot,1,1"] * 8)
+    yield "a_short_one_collides_with_a_long_one", shown(
+        TWO, "offer,7,1", "offer,7,49", "offer,8,97", "slot,1,1", "offer,8,1", "slot,1,2", "slot,1,2", *["slot,1,1"] * 7)
+    yield "both_in_two_resolution_queues", lines(
+        "3,2,7,8,9,10,11,12", *["offer,%d,%d" % (i, bytes) for bytes in (20, 97) for i in range(7, 13)], "slot,3,1,1,2,2,3", "slot,2,3,1,1,3,2", "show", "slot,1,1,1,1,1,1", "show",
+        "slot,1,1,1,1,1,1", "show", "slot,1,2,3,1,2,3", "show", *["slot,1,1,2,1,2,2"] * 4, "show", *["slot,1,1,2,1,2,2"] * 6, "show", *["slot,1,1,2,1,2,2"] * 20, "show")
+    yield "an_owner_with_two_messages", shown(
+        TWO, calendar({0: 7, 2: 7, 4: 7, 6: 8}), "offer,7,97", "offer,7,1", "slot,1,1", "slot,1,1", "slot,2,1", "offer,8,1", "offer,7,1", *["slot,1,2"] * 8)
+    yield "sixty_four_with_two_messages", lines(
+        start(8, 2, MANY), *["offer,%d,%d" % (index, 1 + 48 * (k % 2)) for k, index in enumerate(MANY)], *["offer,%d,%d" % (index, 49 - 48 * (k % 2)) for k, index in enumerate(MANY)],
+        BY_COLUMN, BY_COLUMN, "show", *[BY_ROW] * 8, "show", *[BY_ROW] * 60, "show", *[BY_ROW] * 130, "show")
 
 
 def streams():
@@ -380,10 +435,11 @@ def refusals():
     yield "sixteen_before_ten", lines(TWO, "offer,7,1", "offer,9,0", "offer,9,12241", "offer,9,99999")
     yield "number_9", lines(
         "2,1,7,8,9,10", "offer,7,1", "offer,7,1", "offer,8,1", "slot,1,1,1,1", "offer,7,1", "offer,8,48", "slot,1,1,1,1", "slot,1,2,1,1", "offer,7,1", "offer,9,97",
-        "slot,1,1,1,1", "offer,7,1", "offer,8,1", "slot,1,1,1,1", "offer,8,1", "slot,1,1,1,1", "offer,9,1", "slot,1,1,1,1", "offer,9,1", "slot,1,1,1,1", "offer,9,1", "show")
+        "slot,1,1,1,1", "offer,7,1", "offer,8,1", "slot,1,1,1,1", "offer,8,1", "slot,1,1,1,1", "offer,9,49", "slot,1,1,1,1", "offer,9,49", "slot,1,1,1,1", "offer,9,49", "show")
     yield "number_9_while_resolving", shown(
         "2,1,7,8,9,10", *["offer,%d,1" % i for i in (7, 8, 9, 10)], "slot,1,1,2,2", "slot,1,2,1,1", "offer,9,1", "offer,10,0", "slot,1,1,1,2", "offer,10,1")
-    yield "nine_before_ten", lines(TWO, "offer,7,1", "offer,7,0", "offer,7,12241", "offer,8,0", "show")
+    yield "ten_before_nine", lines(
+        TWO, "offer,7,1", "offer,7,0", "offer,7,12241", "offer,8,0", "offer,7,49", "offer,7,0", "offer,7,12241", "offer,7,99999", "offer,7,1", "offer,7,12240", "show")
     yield "number_10", lines(TWO, "offer,7,0", "offer,7,00000", "offer,7,12241", "offer,7,65535", "offer,7,65536", "offer,7,65584", "offer,7,99999", "show", "offer,7,12240", "show")
     yield "slot_totals", lines(start(2, 1, range(8)), *["offer,%d,%d" % (k, bytes) for k, bytes in enumerate((1, 47, 48, 49, 96, 97, 12192, 12193))], "show")
     yield "number_17", lines(TWO, "slot", "slot,1", "slot,1,1,1", slot([1] * 64), slot([1] * 65), slot([2] * 254), "show", "slot,1,1")
@@ -467,7 +523,7 @@ def drives():
 
 
 def cases():
-    for part in (walks, streams, starts, refusals, calendars, broken, drives):
+    for part in (walks, pairs, two_messages, streams, starts, refusals, calendars, broken, drives):
         yield from part()
 
 

@@ -1,8 +1,8 @@
 #!/usr/bin/env python3
 """What crates/station_run must write, made from the papers' sentences and not from the Rattle programs.
 
-The box, its limits, its slot, its calendar and its numbers are written here once more: queues are counted by walking the minislots, a
-box's place is what its queue has grown to when its own minislot has been passed.
+The box with its two message records, its limits, its slot, its calendar and its numbers are written here once more: queues are counted by walking the
+minislots, a message's place is what its queue has grown to when its own minislot has been passed.
 """
 import sys
 
@@ -12,6 +12,10 @@ WORDS = [w for w in range(4096) if format(w, "b").count("1") == 6]
 PLACES = {w: i for i, w in enumerate(WORDS)}
 LIMIT = {"H": 4095, "N": 65535, "RQ": 4095}
 FREE = 65535  # the entry of a position without an owner
+RECORDS = ("short", "long")  # a box's two message records; of two fresh ones the first asks
+TOTALS = {"short": (1, 1), "long": (2, 255)}
+NEVER = {"short": "long", "long": "urgent"}
+UNUSED = ("free",)  # the condition of a record without a message
 
 
 class Refusal(Exception):
@@ -23,7 +27,7 @@ class Refusal(Exception):
 def blank(m, n, index):
     return {
         "m": m, "n": n, "next": 1, "H": 0, "N": 0, "RQ": [0] * 8, "Open": [True] * 8, "calendar": [FREE] * 24, "position": 0,
-        "index": index, "is": ("free",),
+        "index": index, "short": UNUSED, "long": UNUSED,
     }
 
 
@@ -44,20 +48,35 @@ def owners_of(calendar):
     return set(calendar) - {FREE}
 
 
-def condition_fits(box):
-    kind, *v = box["is"]
-    if kind == "free":
-        return True
-    if kind == "fresh":
-        return in_range(1, v[0], 255)
+def fits_the_kind(name, condition):
+    """A short message has one slot and is never long; a long one has more, up to 255, and is never urgent."""
+    kind, *v = condition
+    if kind in ("free", "urgent"):
+        return kind != NEVER[name]
+    low, high = TOTALS[name]
+    return kind != NEVER[name] and in_range(low, v[-1], high)
+
+
+def fits_the_queues(box, condition):
+    kind, *v = condition
     if kind == "asked":
-        return in_range(1, v[0], box["n"]) and in_range(1, v[1], box["m"]) and in_range(1, v[2], 255)
+        return in_range(1, v[0], box["n"]) and in_range(1, v[1], box["m"])
     if kind == "resolving":
-        return in_range(1, v[0], box["n"]) and in_range(1, v[1], box["RQ"][v[0] - 1]) and in_range(1, v[2], 255)
+        return in_range(1, v[0], box["n"]) and in_range(1, v[1], box["RQ"][v[0] - 1])
     if kind == "urgent":
         return in_range(1, v[0], box["H"])
-    first, left, total = v
-    return in_range(2, total, 255) and in_range(1, left, total) and first >= 1 and first + left - 1 <= box["N"]
+    if kind == "long":
+        first, left, total = v
+        return in_range(1, left, total) and first >= 1 and first + left - 1 <= box["N"]
+    return True
+
+
+def share(one, other):
+    """The two records share an asked group, or a resolution place."""
+    for kind, fields in (("asked", 2), ("resolving", 3)):
+        if one[0] == kind and one[:fields] == other[:fields]:
+            return True
+    return False
 
 
 def fits(box):
@@ -71,7 +90,9 @@ def fits(box):
         return False
     if not in_range(0, box["position"], 23) or FREE not in box["calendar"] or owners_of(box["calendar"]) - INDEXES:
         return False
-    return condition_fits(box)
+    if not all(fits_the_kind(name, box[name]) and fits_the_queues(box, box[name]) for name in RECORDS):
+        return False
+    return not share(box["short"], box["long"])
 
 
 # ---- reading
@@ -104,27 +125,51 @@ def start(m, n, index):
 def offer(box, size):
     if not fits(box):
         raise Refusal(18)
-    if box["is"] != ("free",):
-        raise Refusal(9)
     if not in_range(1, size, 12240):
         raise Refusal(10)
+    name = "short" if size <= 48 else "long"
+    if box[name] != UNUSED:
+        raise Refusal(9)
     slots = -(-size // 48)
-    return slots, dict(box, **{"is": ("fresh", slots)})
+    return slots, dict(box, **{name: ("fresh", slots)})
+
+
+def asked_here(box):
+    """The record that is asked in the group of the slot, at most one by the limits; its minislot and its total."""
+    for name in RECORDS:
+        kind, *v = box[name]
+        if kind == "asked" and v[0] == box["next"]:
+            return name, v[1], v[2]
+    return None, None, None
 
 
 def must_hear(box, row, heard):
     """What a box must hear of itself: 12 if it is missing or foreign."""
     own = WORDS[box["index"]]
-    kind, *v = box["is"]
-    mine = v[1] if kind == "asked" and v[0] == box["next"] else None
+    _, mine, total = asked_here(box)
     for j, ((word, _), what) in enumerate(zip(row, heard), start=1):
         if j == mine:
-            alone = what == ("single", box["index"], v[2])
+            alone = what == ("single", box["index"], total)
             among = what == ("collide",) and (word | own) == word
             if not (alone or among):
                 raise Refusal(12)
         elif what[0] == "single" and what[1] == box["index"]:
             raise Refusal(12)
+
+
+def fallen(condition, g, turn):
+    """Step 5: the condition of a message that didn't ask, after the queues fell."""
+    kind, *v = condition
+    if kind == "resolving" and v[0] == g:
+        return ("resolving", g, v[1] - 1, v[2])
+    if kind == "urgent" and turn == "urgent":
+        return ("urgent", v[0] - 1) if v[0] > 1 else UNUSED
+    if kind == "long" and turn == "long":
+        first, left, total = v
+        if first > 1:
+            return ("long", first - 1, left, total)
+        return ("long", 1, left - 1, total) if left > 1 else UNUSED
+    return condition
 
 
 def slot(box, row, pick):
@@ -140,14 +185,13 @@ def slot(box, row, pick):
     H, N, RQ = box["H"], box["N"], box["RQ"][g - 1]
     weight = sum({"empty": 0, "single": 1, "collide": 2}[what[0]] for what in heard)
     success = box["Open"][g - 1] and weight == 1
-    after = box["is"]
-    mine = after[2] if after[0] == "asked" and after[1] == g else None
-    total = after[3] if mine else None
+    after = {name: box[name] for name in RECORDS}
+    name, mine, total = asked_here(box)
     for j, what in enumerate(heard, start=1):  # step 1
         if what[0] == "single" and what[2] == 1:
             if not success:
                 H += 1
-            stands = ("free",) if success else ("urgent", H)
+            stands = UNUSED if success else ("urgent", H)
         elif what[0] == "single":
             N += what[2]
             stands = ("long", N - what[2] + 1, total, total)
@@ -155,7 +199,7 @@ def slot(box, row, pick):
             RQ += 1
             stands = ("resolving", g, RQ, total)
         if j == mine and what[0] != "empty":
-            after = stands
+            after[name] = stands
     if H > LIMIT["H"] or N > LIMIT["N"] or RQ > LIMIT["RQ"]:
         raise Refusal(7)
     must_hear(box, row, heard)
@@ -164,33 +208,24 @@ def slot(box, row, pick):
     if owner != FREE:
         turn = "owned,%d" % owner
     if RQ:  # step 3
-        asks = after[0] == "resolving" and after[1] == g and after[2] == 1
+        asks = [name for name in RECORDS if after[name][:3] == ("resolving", g, 1)]
+        assert len(asks) <= 1  # by the limits
     else:
-        asks = after[0] == "fresh"
-    total = after[-1]
+        asks = [name for name in RECORDS if after[name][0] == "fresh"][:1]
     segment = 0  # step 4
-    if turn == "urgent" and after == ("urgent", 1):
+    if turn == "urgent" and after["short"] == ("urgent", 1):
         segment = 1
-    if turn == "long" and after[0] == "long" and after[1] == 1:
-        segment = after[3] - after[2] + 1
-    if turn == "open" and asks and total == 1:
+    if turn == "long" and after["long"][:2] == ("long", 1):
+        segment = after["long"][3] - after["long"][2] + 1
+    if turn == "open" and asks == ["short"]:
         segment = 1
-    if asks:
-        after = ("asked", g, pick, total)
-    elif after[0] == "resolving" and after[1] == g:  # step 5
-        after = ("resolving", g, after[2] - 1, after[3])
-    elif after[0] == "urgent" and turn == "urgent":
-        after = ("urgent", after[1] - 1) if after[1] > 1 else ("free",)
-    elif after[0] == "long" and turn == "long":
-        if after[1] > 1:
-            after = ("long", after[1] - 1, after[2], after[3])
-        else:
-            after = ("long", 1, after[2] - 1, after[3]) if after[2] > 1 else ("free",)
+    for name in RECORDS:
+        after[name] = ("asked", g, pick, after[name][-1]) if name in asks else fallen(after[name], g, turn)
     new = dict(box, H=H - (turn == "urgent"), N=N - (turn == "long"), next=g % box["n"] + 1, RQ=list(box["RQ"]), Open=list(box["Open"]))
     new["RQ"][g - 1] = max(RQ - 1, 0)
     new["Open"][g - 1] = turn == "open"
     new["position"] = (box["position"] + 1) % 24
-    new["is"] = after
+    new.update(after)
     return (turn, pick if asks else 0, segment), new
 
 
@@ -211,9 +246,14 @@ def put(*parts):
     print(",".join(str(p) for p in parts))
 
 
+def four(condition):
+    """A condition's word and three numbers, 0 where it has fewer."""
+    return [*condition, 0, 0, 0][:4]
+
+
 def put_record(box):
     marks = ["yes" if o else "no" for o in box["Open"]]
-    put("record", box["m"], box["n"], box["next"], box["H"], box["N"], *box["RQ"], *marks, box["index"], *box["is"])
+    put("record", box["m"], box["n"], box["next"], box["H"], box["N"], *box["RQ"], *marks, box["index"], *four(box["short"]), *four(box["long"]))
 
 
 def owned_text(position, entries):
@@ -237,13 +277,18 @@ def begin(m, n, index):
     return box
 
 
-def given(m, n, nxt, H, N, RQ1, RQ2, open1, index, condition):
+def given(m, n, nxt, H, N, RQ1, RQ2, open1, index, short=UNUSED, long=UNUSED):
     box = blank(m, n, index)
-    box.update(next=nxt, H=H, N=N, RQ=[RQ1, RQ2] + [0] * 6, Open=[open1] + [True] * 7)
-    box["is"] = condition
+    box.update(next=nxt, H=H, N=N, RQ=[RQ1, RQ2] + [0] * 6, Open=[open1] + [True] * 7, short=short, long=long)
     put("given")
     put_record(box)
     return box
+
+
+def alone(condition):
+    """The two records of a box that has one message: it is in the long record if it is long or has more than one slot."""
+    kind, *v = condition
+    return (UNUSED, condition) if kind == "long" or kind not in ("free", "urgent") and v[-1] > 1 else (condition, UNUSED)
 
 
 def offered(box, size):
@@ -356,34 +401,74 @@ def starts():
 
 
 def offers():
+    """10, then 9, by the record that the length picks."""
     for size in (1, 48, 49, 12240, 0, 12241):
         offered(begin(3, 2, 7), size)
-    box = offered(begin(2, 1, 5), 49)
-    offered(box, 10)
+    for sizes in ((49, 10, 0, 12241, 1, 49, 48, 12240), (48, 48, 0, 12240, 12241, 1, 49)):
+        box = begin(2, 1, 5)
+        for size in sizes:
+            box = offered(box, size)
+    for short in (("fresh", 1), ("asked", 1, 1, 1), ("resolving", 1, 1, 1), ("urgent", 1)):
+        box = given(2, 2, 1, 1, 3, 1, 0, True, 5, short, UNUSED)
+        for size in (48, 0, 49, 12240):
+            box = offered(box, size)
+    for long in (("fresh", 2), ("asked", 2, 1, 255), ("resolving", 1, 1, 3), ("long", 1, 3, 3)):
+        box = given(2, 2, 1, 1, 3, 1, 0, True, 5, UNUSED, long)
+        for size in (49, 12241, 48, 1):
+            box = offered(box, size)
+
+
+def outside(*values):
+    """18, tried by an offer of nothing to a box that has a message, and by a slot without a row or a pick."""
+    box = given(*values)
     offered(box, 0)
+    slotted(box, [EMPTY], 0)
 
 
 def outside_limits():
-    """18 by each limit, tried by an offer to a box that is also not free, and by a slot without a row."""
+    """18 by each limit of the counters, of a message's record and of the two together; and records that are just within."""
     for values in (
-        (2, 1, 0, 0, 0, 0, 0, True, 0, ("fresh", 1)),
-        (2, 1, 2, 0, 0, 0, 0, True, 0, ("fresh", 1)),
-        (2, 1, 1, 4096, 0, 0, 0, True, 0, ("fresh", 1)),
-        (2, 1, 1, 0, 0, 4096, 0, True, 0, ("fresh", 1)),
-        (2, 1, 1, 0, 0, 0, 1, True, 0, ("fresh", 1)),
-        (2, 1, 1, 0, 0, 0, 0, True, 924, ("fresh", 1)),
-        (2, 1, 1, 0, 0, 0, 0, True, 0, ("fresh", 0)),
-        (2, 1, 1, 0, 0, 0, 0, True, 0, ("asked", 2, 1, 1)),
-        (2, 1, 1, 0, 0, 0, 0, True, 0, ("asked", 1, 3, 1)),
-        (2, 1, 1, 0, 0, 1, 0, True, 0, ("resolving", 1, 2, 1)),
-        (2, 1, 1, 1, 0, 0, 0, True, 0, ("urgent", 2)),
-        (2, 1, 1, 0, 5, 0, 0, True, 0, ("long", 4, 3, 3)),
-        (2, 1, 1, 0, 5, 0, 0, True, 0, ("long", 1, 4, 3)),
-        (2, 1, 1, 0, 5, 0, 0, True, 0, ("long", 1, 1, 1)),
+        (2, 1, 0, 0, 0, 0, 0, True, 0), (2, 1, 2, 0, 0, 0, 0, True, 0), (2, 1, 1, 4096, 0, 0, 0, True, 0),
+        (2, 1, 1, 0, 0, 4096, 0, True, 0), (2, 1, 1, 0, 0, 0, 1, True, 0), (2, 1, 1, 0, 0, 0, 0, True, 924),
     ):
-        box = given(*values)
-        offered(box, 0)
-        slotted(box, [EMPTY], 0)
+        outside(*values, ("fresh", 1))
+    for H, N, RQ1, condition in (
+        (0, 0, 0, ("fresh", 0)), (0, 0, 0, ("asked", 2, 1, 1)), (0, 0, 0, ("asked", 1, 3, 1)), (0, 0, 1, ("resolving", 1, 2, 1)), (1, 0, 0, ("urgent", 2)),
+        (0, 5, 0, ("long", 4, 3, 3)), (0, 5, 0, ("long", 1, 4, 3)), (0, 5, 0, ("long", 1, 1, 1)),
+    ):
+        outside(2, 1, 1, H, N, RQ1, 0, True, 0, *alone(condition))
+    queues = (2, 2, 1, 1, 5, 2, 1, True, 0)
+    # a short message: its total is 1
+    for short in (
+        ("fresh", 0), ("fresh", 2), ("fresh", 255),
+        ("asked", 0, 1, 1), ("asked", 3, 1, 1), ("asked", 1, 0, 1), ("asked", 1, 3, 1), ("asked", 1, 1, 0), ("asked", 1, 1, 2),
+        ("resolving", 0, 1, 1), ("resolving", 3, 1, 1), ("resolving", 255, 1, 1),
+        ("resolving", 1, 0, 1), ("resolving", 1, 3, 1), ("resolving", 2, 2, 1), ("resolving", 1, 1, 0), ("resolving", 1, 1, 2),
+        ("urgent", 0), ("urgent", 2), ("long", 1, 1, 1),
+    ):
+        outside(*queues, short, ("fresh", 2))
+    # a long one: its total is above 1
+    for long in (
+        ("fresh", 0), ("fresh", 1),
+        ("asked", 0, 1, 5), ("asked", 3, 1, 5), ("asked", 1, 0, 5), ("asked", 1, 3, 5), ("asked", 1, 1, 0), ("asked", 1, 1, 1),
+        ("resolving", 0, 1, 5), ("resolving", 3, 1, 5), ("resolving", 9, 1, 5),
+        ("resolving", 1, 0, 5), ("resolving", 1, 3, 5), ("resolving", 2, 2, 5), ("resolving", 1, 1, 0), ("resolving", 1, 1, 1),
+        ("long", 0, 3, 3), ("long", 4, 3, 3), ("long", 6, 1, 2), ("long", 65535, 255, 255), ("long", 1, 0, 3), ("long", 1, 4, 3), ("long", 1, 1, 1), ("long", 1, 0, 0),
+    ):
+        outside(*queues, ("fresh", 1), long)
+    # the eleven pairs of conditions that cannot be: a short message is never long, a long one never urgent
+    for long in (UNUSED, ("fresh", 2), ("asked", 1, 1, 2), ("resolving", 1, 1, 2), ("urgent", 1), ("long", 4, 2, 2)):
+        outside(*queues, ("long", 1, 3, 3), long)
+    for short in (UNUSED, ("fresh", 1), ("asked", 1, 1, 1), ("resolving", 1, 1, 1), ("urgent", 1)):
+        outside(*queues, short, ("urgent", 1))
+    # the two share an asked group or a resolution place; then those that do not
+    for short, long in (
+        (("asked", 1, 1, 1), ("asked", 1, 2, 5)), (("asked", 2, 1, 1), ("asked", 2, 1, 2)),
+        (("resolving", 1, 2, 1), ("resolving", 1, 2, 5)), (("resolving", 2, 1, 1), ("resolving", 2, 1, 2)),
+        (("asked", 1, 1, 1), ("asked", 2, 1, 5)), (("resolving", 1, 1, 1), ("resolving", 1, 2, 5)), (("resolving", 2, 1, 1), ("resolving", 1, 1, 2)),
+        (("asked", 1, 1, 1), ("resolving", 1, 1, 5)), (("resolving", 1, 2, 1), ("asked", 1, 2, 255)), (("urgent", 1), ("long", 1, 5, 5)), (("fresh", 1), ("long", 5, 1, 2)),
+    ):
+        outside(*queues, short, long)
 
 
 def rows_refused():
@@ -402,13 +487,13 @@ def rows_refused():
 def limits_passed():
     """7 at each limit, and not one below it; 7 before 12."""
     for before, row in (
-        ((2, 1, 1, 4095, 0, 0, 0, True, 0, ("free",)), [(95, 1), (111, 1)]),
-        ((2, 1, 1, 4094, 0, 0, 0, False, 0, ("free",)), [(95, 1), EMPTY]),
-        ((2, 1, 1, 4095, 0, 0, 0, True, 0, ("free",)), [(95, 1), EMPTY]),
-        ((2, 1, 1, 0, 65535, 0, 0, True, 0, ("free",)), [EMPTY, (95, 2)]),
-        ((2, 1, 1, 0, 65533, 0, 0, True, 0, ("free",)), [EMPTY, (95, 2)]),
-        ((2, 1, 1, 0, 0, 4095, 0, True, 0, ("free",)), [(127, 0), EMPTY]),
-        ((2, 1, 1, 0, 0, 4094, 0, True, 0, ("free",)), [(127, 0), EMPTY]),
+        ((2, 1, 1, 4095, 0, 0, 0, True, 0), [(95, 1), (111, 1)]),
+        ((2, 1, 1, 4094, 0, 0, 0, False, 0), [(95, 1), EMPTY]),
+        ((2, 1, 1, 4095, 0, 0, 0, True, 0), [(95, 1), EMPTY]),
+        ((2, 1, 1, 0, 65535, 0, 0, True, 0), [EMPTY, (95, 2)]),
+        ((2, 1, 1, 0, 65533, 0, 0, True, 0), [EMPTY, (95, 2)]),
+        ((2, 1, 1, 0, 0, 4095, 0, True, 0), [(127, 0), EMPTY]),
+        ((2, 1, 1, 0, 0, 4094, 0, True, 0), [(127, 0), EMPTY]),
         ((2, 1, 1, 4095, 0, 0, 0, False, 0, ("asked", 1, 1, 1)), [(95, 1), EMPTY]),
     ):
         slotted(given(*before), row, 1)
@@ -416,7 +501,7 @@ def limits_passed():
 
 def own_hearing():
     """12: missing or foreign in its own minislot, or itself elsewhere; and each row that a box must take."""
-    asked = (2, 2, 1, 0, 0, 0, 0, True, 0, ("asked", 1, 2, 3))
+    asked = (2, 2, 1, 0, 0, 0, 0, True, 0, UNUSED, ("asked", 1, 2, 3))
     for row in ([EMPTY, EMPTY], [EMPTY, (95, 3)], [EMPTY, (63, 2)], [EMPTY, (4032, 3)], [EMPTY, (223, 0)], [EMPTY, (4064, 1)],
                 [EMPTY, (254, 3)], [(63, 3), (63, 3)], [(63, 3), EMPTY], [EMPTY, (63, 3)], [EMPTY, (127, 255)], [(95, 1), (63, 3)]):
         slotted(given(*asked), row, 1)
@@ -425,7 +510,7 @@ def own_hearing():
                 [(1, 0), (31, 3)]):
         slotted(given(*asked), row, 1)
     for row in ([EMPTY, EMPTY], [(63, 3), EMPTY], [EMPTY, (127, 0)], [EMPTY, (31, 0)]):
-        slotted(given(2, 2, 2, 0, 0, 0, 0, True, 0, ("asked", 1, 2, 3)), row, 1)
+        slotted(given(2, 2, 2, 0, 0, 0, 0, True, 0, UNUSED, ("asked", 1, 2, 3)), row, 1)
     for row in ([(63, 1), EMPTY], [(127, 1), (95, 1)]):
         slotted(begin(2, 1, 0), row, 1)
 
@@ -530,7 +615,11 @@ def outside_calendar_limits():
     for position, entries in ((23, owning(p23=7)), (23, owning(p0=923)), (11, MOST)):
         box = at(given(2, 1, 1, 0, 0, 0, 0, True, 7, ("fresh", 1)), position, entries)
         show(slotted(box, SILENT, 2))
-    for values in ((2, 1, 2, 0, 0, 0, 0, True, 0, ("free",)), (2, 1, 1, 0, 0, 0, 0, True, 924, ("free",)), (2, 1, 1, 1, 0, 0, 0, True, 0, ("urgent", 2))):
+    for values in (
+        (2, 1, 2, 0, 0, 0, 0, True, 0), (2, 1, 1, 0, 0, 0, 0, True, 924), (2, 1, 1, 1, 0, 0, 0, True, 0, ("urgent", 2)), (2, 1, 1, 0, 0, 0, 0, True, 0, ("fresh", 2)),
+        (2, 1, 1, 1, 0, 0, 0, True, 0, UNUSED, ("urgent", 1)), (2, 2, 1, 0, 0, 0, 0, True, 0, ("asked", 2, 1, 1), ("asked", 2, 2, 3)),
+        (2, 1, 1, 0, 0, 2, 0, True, 0, ("resolving", 1, 2, 1), ("resolving", 1, 2, 3)),
+    ):
         calendared(given(*values), FULL)
     calendared(begin(1, 1, 0), owning(p0=924))
 
@@ -539,8 +628,8 @@ def owner_in_every_condition():
     """A slot at a position that the box owns, and the next one, which nobody does; then some where another box is the owner."""
     mine, other = (63, 1), (95, 1)
     for H, N, RQ, is_open, condition, row, following in (
-        (0, 0, 0, True, ("free",), SILENT, SILENT),
-        (1, 0, 1, True, ("free",), [other, EMPTY], SILENT),
+        (0, 0, 0, True, UNUSED, SILENT, SILENT),
+        (1, 0, 1, True, UNUSED, [other, EMPTY], SILENT),
         (0, 0, 0, True, ("fresh", 1), SILENT, SILENT),
         (1, 2, 0, False, ("fresh", 3), SILENT, SILENT),
         (0, 0, 1, False, ("fresh", 1), SILENT, SILENT),
@@ -564,10 +653,10 @@ def owner_in_every_condition():
         (1, 2, 0, False, ("long", 1, 2, 2), SILENT, SILENT),
     ):
         RQ2 = 1 if condition[:2] == ("resolving", 2) else 0
-        box = at(given(2, 2, 1, H, N, RQ, RQ2, is_open, 0, condition), 5, owning(p5=0, p7=8))
+        box = at(given(2, 2, 1, H, N, RQ, RQ2, is_open, 0, *alone(condition)), 5, owning(p5=0, p7=8))
         slotted(slotted(box, row, 1), following, 2)
-    for H, N, condition in ((0, 0, ("fresh", 1)), (1, 0, ("urgent", 1)), (0, 2, ("long", 1, 2, 2)), (0, 0, ("free",))):
-        box = at(given(2, 2, 1, H, N, 0, 0, True, 0, condition), 5, owning(p5=923))
+    for H, N, condition in ((0, 0, ("fresh", 1)), (1, 0, ("urgent", 1)), (0, 2, ("long", 1, 2, 2)), (0, 0, UNUSED)):
+        box = at(given(2, 2, 1, H, N, 0, 0, True, 0, *alone(condition)), 5, owning(p5=923))
         slotted(slotted(box, SILENT, 1), SILENT, 2)
 
 
@@ -613,6 +702,122 @@ def streams_beside():
     beside(box, ear, recording, 8, 1)
 
 
+# ---- both records in use
+
+def holding(short, long, H=0, N=0, RQ1=0, RQ2=0):
+    """Box 0 of two groups with these records, group 1 coming; each queue as long as its places need, or longer."""
+    if short[0] == "urgent":
+        H = max(H, short[1])
+    if long[0] == "long":
+        N = max(N, long[1] + long[2] - 1)
+    RQ1, RQ2 = (max([RQ] + [c[2] for c in (short, long) if c[:2] == ("resolving", g)]) for g, RQ in ((1, RQ1), (2, RQ2)))
+    return given(2, 2, 1, H, N, RQ1, RQ2, True, 0, short, long)
+
+
+def heard_alone(box, pick):
+    """A slot whose row is what the box itself asked, or silence."""
+    _, mine, total = asked_here(box)
+    return slotted(box, [(WORDS[box["index"]], total) if j == mine else EMPTY for j in range(1, box["m"] + 1)], pick)
+
+
+def every_pair():
+    """A slot of group 1 and one of group 2, of a box whose records are in any two conditions that can be together."""
+    for short in (
+        UNUSED, ("fresh", 1), ("asked", 1, 2, 1), ("asked", 2, 1, 1), ("resolving", 1, 1, 1), ("resolving", 1, 2, 1), ("resolving", 2, 1, 1), ("urgent", 1), ("urgent", 2),
+    ):
+        for long in (
+            UNUSED, ("fresh", 3), ("asked", 1, 2, 3), ("asked", 2, 1, 3), ("resolving", 1, 1, 3), ("resolving", 1, 2, 3), ("resolving", 2, 1, 3), ("long", 1, 2, 3), ("long", 3, 3, 3),
+        ):
+            if not share(short, long):
+                heard_alone(heard_alone(holding(short, long), 1), 2)
+
+
+def pairs_heard_otherwise():
+    """What was asked is heard in a Collide, or beside another box, while the other record is in each condition."""
+    mine, reel, other = ("asked", 1, 2, 1), ("asked", 1, 2, 3), (95, 1)
+    for row in ([EMPTY, (127, 1)], [(127, 0), (127, 1)], [other, (63, 1)]):
+        for long in (("fresh", 3), ("asked", 2, 1, 3), ("resolving", 1, 1, 3), ("resolving", 2, 1, 3), ("long", 1, 3, 3)):
+            slotted(holding(mine, long), row, 1)
+    for row in ([EMPTY, (127, 3)], [(127, 0), (127, 3)], [other, (63, 3)]):
+        for short in (("fresh", 1), ("asked", 2, 1, 1), ("resolving", 1, 1, 1), ("resolving", 2, 1, 1), ("urgent", 1)):
+            slotted(holding(short, reel), row, 1)
+
+
+def own_hearing_of_two():
+    """12 by the record that is asked in the slot's group, whatever the other one is."""
+    mine, reel = (63, 1), (63, 3)
+    for short, long, rows in (
+        (("asked", 1, 2, 1), ("asked", 2, 1, 3), (
+            [EMPTY, mine], [EMPTY, reel], [reel, EMPTY], [mine, EMPTY], [reel, mine], SILENT, [EMPTY, (127, 3)], [EMPTY, (254, 1)], [(127, 3), mine], [(127, 3), EMPTY])),
+        (("asked", 2, 2, 1), ("asked", 1, 1, 3), ([reel, EMPTY], [mine, EMPTY], [EMPTY, mine], [reel, mine], SILENT, [(127, 1), EMPTY], [(254, 3), EMPTY])),
+        (("asked", 1, 2, 1), ("fresh", 3), ([EMPTY, reel], [reel, EMPTY])),
+        (("asked", 1, 2, 1), ("resolving", 1, 1, 3), ([EMPTY, reel], [reel, mine])),
+        (("asked", 1, 2, 1), ("long", 1, 3, 3), ([EMPTY, reel], [reel, mine])),
+        (("fresh", 1), ("asked", 1, 2, 3), ([EMPTY, mine], [mine, EMPTY])),
+        (("resolving", 1, 1, 1), ("asked", 1, 2, 3), ([EMPTY, mine], [mine, reel])),
+        (("urgent", 1), ("asked", 1, 2, 3), ([EMPTY, mine], [mine, reel])),
+        (("fresh", 1), ("asked", 2, 2, 3), (SILENT, [EMPTY, reel], [mine, EMPTY])),
+        (("urgent", 1), ("long", 1, 3, 3), ([EMPTY, reel], [mine, EMPTY])),
+    ):
+        for row in rows:
+            slotted(holding(short, long), row, 1)
+
+
+def data_of_two():
+    """Whose data goes by each turn: on another box's urgent and long turn, a resolve turn that is not its own, and owned ones."""
+    for H, N, RQ1, short, long in (
+        (2, 0, 0, ("fresh", 1), ("long", 1, 3, 3)), (1, 5, 0, ("fresh", 1), ("fresh", 3)), (0, 2, 0, ("fresh", 1), ("fresh", 3)), (0, 2, 1, ("fresh", 1), ("long", 2, 1, 3)),
+        (0, 0, 1, ("fresh", 1), ("fresh", 3)), (0, 0, 3, ("resolving", 1, 2, 1), ("resolving", 1, 3, 3)), (2, 4, 2, ("urgent", 2), ("long", 1, 1, 255)),
+    ):
+        box = holding(short, long, H, N, RQ1)
+        for pick in (1, 2, 1):
+            box = heard_alone(box, pick)
+    for short, long in (
+        (("fresh", 1), ("fresh", 3)), (("fresh", 1), ("long", 1, 3, 3)), (("urgent", 1), ("fresh", 3)), (("urgent", 1), ("long", 1, 3, 3)), (("asked", 1, 2, 1), ("fresh", 3)),
+        (("resolving", 1, 1, 1), ("resolving", 1, 2, 3)),
+    ):
+        for owner in (0, 923):
+            heard_alone(heard_alone(at(holding(short, long), 5, owning(p5=owner)), 1), 2)
+
+
+def lives_of_two():
+    """Both messages from their offers on."""
+    # one group: the long one stays fresh while the short one asks, and asks in the slot that hears the short one's success
+    box = offered(offered(begin(2, 1, 0), 100), 10)
+    for pick in (2, 1, 1, 2, 1):
+        box = heard_alone(box, pick)
+    # two groups: it asks in the next slot, of the other group; both are asked, in different groups
+    box = offered(offered(begin(2, 2, 0), 10), 49)
+    for pick in (2, 1, 1, 2):
+        box = heard_alone(box, pick)
+    # the short one overtakes: it asks while the long one sends, is queued and leaves before the rest; then another one does
+    box = heard_alone(heard_alone(offered(begin(2, 1, 0), 200), 1), 1)
+    box = heard_alone(heard_alone(offered(box, 48), 2), 1)
+    box = heard_alone(offered(box, 1), 1)
+    for pick in (1, 1, 2):
+        box = heard_alone(box, pick)
+    # collisions: the short one in group 1's resolution queue, the long one in group 2's, each at a second place
+    box = slotted(offered(begin(2, 2, 0), 20), SILENT, 2)
+    box = slotted(offered(box, 97), SILENT, 2)
+    for row, pick in (
+        ([(127, 0), (127, 1)], 1), ([(127, 0), (127, 3)], 1), ([(95, 1), (111, 1)], 1), ([EMPTY, (95, 1)], 2), ([(63, 1), EMPTY], 1), ([EMPTY, (63, 3)], 1),
+        (SILENT, 1), (SILENT, 1), (SILENT, 1), (SILENT, 1), (SILENT, 1),
+    ):
+        box = slotted(box, row, pick)
+
+
+def lives_of_two_beside():
+    """Both messages in the rows of a recording; a listener hears the same rows."""
+    recording = [EMPTY, EMPTY, (127, 1), EMPTY, (63, 1), EMPTY, EMPTY, (63, 3), (63, 1), EMPTY, EMPTY]
+    box = offered(offered(begin(2, 1, 0), 100), 10)
+    ear = listening(2, 1)
+    for place, pick in ((0, 1), (2, 1), (4, 2), (6, 1)):
+        box = beside(box, ear, recording, place, pick)
+    box = offered(box, 1)
+    for place, pick in ((0, 1), (8, 1), (9, 1), (9, 1)):
+        box = beside(box, ear, recording, place, pick)
+
+
 def main():
     starts()
     offers()
@@ -631,6 +836,12 @@ def main():
     owner_in_every_condition()
     streams()
     streams_beside()
+    every_pair()
+    pairs_heard_otherwise()
+    own_hearing_of_two()
+    data_of_two()
+    lives_of_two()
+    lives_of_two_beside()
 
 
 if __name__ == "__main__":

@@ -38,7 +38,7 @@ abbrev pub requestsOf : List TableMessage → List WireRequest
 requestsOf messages = gatherOf requestDrawn messages
 
 abbrev pub drawnRequests : List WireRequest → DrawnRequests
-drawnRequests l = record { list = padded 64 noRequest l; count = length l }
+drawnRequests l = record { list = padded 128 noRequest l; count = length l }
 
 -- ---- one group's row
 

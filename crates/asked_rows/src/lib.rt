@@ -37,7 +37,7 @@ const NOT_ASKED: FoundRequest = FoundRequest {
 
 // The requests of messages: the first `count` of the list.
 pub struct DrawnRequests {
-    pub list: [WireRequest; 64],
+    pub list: [WireRequest; 128],
     pub count: usize,
 }
 
@@ -67,12 +67,12 @@ fn asking(index: u16, condition: Condition) -> FoundRequest
     }
 }
 
-// The requests of those of the first `count` messages, or of all 64 where there are no more, that are asked.
-pub fn requests(messages: [TableMessage; 64], count: usize) -> DrawnRequests
+// The requests of those of the first `count` messages, or of all 128 where there are no more, that are asked.
+pub fn requests(messages: [TableMessage; 128], count: usize) -> DrawnRequests
     ensures { λ r. ⌜ r ≡ drawnRequests (requestsOf (take count messages)) ⌝ }
 {
-    let end = least(count, 64);
-    let mut list = [NO_REQUEST; 64];
+    let end = least(count, 128);
+    let mut list = [NO_REQUEST; 128];
     let mut n: usize = 0;
     let mut i: usize = 0;
     while i < end {
@@ -89,12 +89,12 @@ pub fn requests(messages: [TableMessage; 64], count: usize) -> DrawnRequests
     DrawnRequests { list, count: n }
 }
 
-// The row that one group's requests of the first `count` make, or of all 64 where there are no more. A word is looked up only for a
+// The row that one group's requests of the first `count` make, or of all 128 where there are no more. A word is looked up only for a
 // request of the row.
-pub fn row_of(list: [WireRequest; 64], count: usize, group: u8) -> [Minislot; 8]
+pub fn row_of(list: [WireRequest; 128], count: usize, group: u8) -> [Minislot; 8]
     ensures { λ r. ⌜ r ≡ carriedRow group (take count list) ⌝ }
 {
-    let end = least(count, 64);
+    let end = least(count, 128);
     let mut row = [Minislot { word: 0, count: 0 }; 8];
     let mut i: usize = 0;
     while i < end {

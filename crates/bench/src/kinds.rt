@@ -1,11 +1,19 @@
 // Tables of 64 stations of one kind each.
 //
-// 0: all free. 1: all urgent. 2: all long, stretches of 255 slots one after another. 3: all resolving, 32 places of two. 4: all asked in
-// one minislot. 5: all asked, one in each minislot of eight groups. 6: full counters, any condition. 7: as 3, and the last station owns
-// every position but one; in the others nobody owns any.
+// With one message record of each station in use, or none. 0: all free. 1: short ones urgent. 2: long ones long, stretches of 255 slots one
+// after another. 3: short ones resolving, 32 places of two. 4: long ones asked in one minislot. 5: long ones asked, one in each minislot of
+// eight groups. 6: full counters, any conditions of both records. 7: as 3.
+//
+// With both in use. 8: as 1 and 2. 9: resolving, 64 places of a short one and of the next station's long one. 10: short ones asked in one
+// minislot, and long ones in one of another group. 11: short ones as 1, and long ones resolving, 32 places of two.
+//
+// From 7 on the last station owns every position but one; in the others nobody owns any.
 use minislot::Minislot;
+use requests::carry;
+use requests::place;
 use rules::Condition;
 use rules::Counters;
+use rules::MessageRecord;
 use rules::Station;
 use rules::WireRow;
 use runs_arrivals::draw;
@@ -23,15 +31,19 @@ fn queue(g: usize, kind: u64, groups: u8) -> u16 {
     if kind == 6 {
         return if g < groups as usize { 4095 } else { 0 };
     }
-    if kind == 3 || kind == 7 {
-        return if g == 0 { 32 } else { 0 };
+    if 0 < g {
+        return 0;
     }
-    0
+    match kind {
+        3 | 7 | 11 => 32,
+        9 => 64,
+        _ => 0,
+    }
 }
 
 // The last position is free in each kind.
 fn calendar_of(kind: u64) -> [u16; 24] {
-    let owner = if kind == 7 { 882 } else { 65535 };
+    let owner = if kind < 7 { 65535 } else { 882 };
     let mut calendar = [owner; 24];
     calendar[23] = 65535;
     calendar
@@ -46,12 +58,12 @@ fn counters_of(kind: u64, groups: u8) -> Counters {
         g += 1;
     }
     let urgent = match kind {
-        1 => 64,
+        1 | 8 | 11 => 64,
         6 => 4095,
         _ => 0,
     };
     let long = match kind {
-        2 => 16320,
+        2 | 8 => 16320,
         6 => 65535,
         _ => 0,
     };
@@ -68,26 +80,41 @@ fn counters_of(kind: u64, groups: u8) -> Counters {
     }
 }
 
-// ---- the condition of station k
+// ---- the messages of station k
 
 // By the arithmetic rule, within the limits of full queues.
-fn drawn(k: u16) -> Condition {
-    let kind = draw(1, k as u64, 1, 5);
-    let place = (draw(1, k as u64, 2, 4095) % 4095 + 1) as u16;
-    let group = (draw(1, k as u64, 3, 8) % 8 + 1) as u8;
-    match kind {
+fn drawn_place(k: u16) -> u16
+    ensures { λ r. ⌜ r ≤ 4095 ⌝ }
+{
+    (draw(1, k as u64, 2, 4095) % 4095 + 1) as u16
+}
+
+fn drawn_group(k: u16) -> u8 {
+    (draw(1, k as u64, 3, 8) % 8 + 1) as u8
+}
+
+fn drawn_short(k: u16) -> Condition {
+    let place = drawn_place(k);
+    match draw(1, k as u64, 1, 3) {
         0 => Condition::Urgent { place },
-        1 => Condition::Long {
-            first: place * 15,
-            left: 255,
-            total: 255,
-        },
-        2 => Condition::Resolving {
-            group,
+        1 => Condition::Resolving {
+            group: drawn_group(k),
             place,
             total: 1,
         },
-        3 => Condition::Asked {
+        _ => Condition::Free,
+    }
+}
+
+fn drawn_long(k: u16) -> Condition {
+    let group = drawn_group(k);
+    match draw(1, k as u64, 4, 3) {
+        0 => Condition::Long {
+            first: drawn_place(k) * 15,
+            left: 255,
+            total: 255,
+        },
+        1 => Condition::Asked {
             group,
             minislot: group,
             total: 255,
@@ -96,75 +123,100 @@ fn drawn(k: u16) -> Condition {
     }
 }
 
-fn condition_of(kind: u64, k: u16) -> Condition {
+// At a place of group 1, from 0.
+fn resolving(place: u16, total: u8) -> Condition {
+    Condition::Resolving {
+        group: 1,
+        place: place % 64 + 1,
+        total,
+    }
+}
+
+// In a group and a minislot, both from 0.
+fn asked(group: u16, minislot: u16, total: u8) -> Condition {
+    Condition::Asked {
+        group: (group % 8) as u8 + 1,
+        minislot: (minislot % 8) as u8 + 1,
+        total,
+    }
+}
+
+fn short_of(kind: u64, k: u16) -> Condition {
     let i = k % 64;
     match kind {
-        0 => Condition::Free,
-        1 => Condition::Urgent { place: i + 1 },
-        2 => Condition::Long {
+        1 | 8 | 11 => Condition::Urgent { place: i + 1 },
+        3 | 7 => resolving(i / 2, 1),
+        6 => drawn_short(k),
+        9 => resolving(i, 1),
+        10 => asked(0, 0, 1),
+        _ => Condition::Free,
+    }
+}
+
+fn long_of(kind: u64, k: u16) -> Condition {
+    let i = k % 64;
+    match kind {
+        2 | 8 => Condition::Long {
             first: i * 255 + 1,
             left: 255,
             total: 255,
         },
-        3 => Condition::Resolving {
-            group: 1,
-            place: i / 2 + 1,
-            total: 1,
+        4 => asked(0, 0, 255),
+        5 => asked(i / 8, i, 255),
+        6 => drawn_long(k),
+        9 => resolving(i + 63, 255),
+        10 => asked(1, 0, 255),
+        11 => resolving(i / 2, 255),
+        _ => Condition::Free,
+    }
+}
+
+fn station_of(kind: u64, counters: Counters, k: u16) -> Station {
+    Station {
+        counters,
+        index: k % 64 * 14,
+        short: MessageRecord {
+            condition: short_of(kind, k),
         },
-        4 => Condition::Asked {
-            group: 1,
-            minislot: 1,
-            total: 255,
+        long: MessageRecord {
+            condition: long_of(kind, k),
         },
-        5 => Condition::Asked {
-            group: (i / 8) as u8 + 1,
-            minislot: (i % 8) as u8 + 1,
-            total: 255,
-        },
-        7 => Condition::Resolving {
-            group: 1,
-            place: i / 2 + 1,
-            total: 1,
-        },
-        _ => drawn(k),
     }
 }
 
 // ---- the tables
 
-// How many stations' words are on the wire.
-fn heard(kind: u64) -> usize
-    ensures { λ r. ⌜ r ≤ 64 ⌝ }
-{
-    if kind == 7 {
-        return 0;
-    }
-    if kind < 4 { 0 } else { 64 }
+// The wire with the request of a message, if it is asked.
+fn with_request(wire: [WireRow; 8], index: u16, m: MessageRecord) -> [WireRow; 8] {
+    let k = m.condition;
+    let Condition::Asked {
+        group,
+        minislot,
+        total,
+    } = k
+    else {
+        return wire;
+    };
+    let mut wire = wire;
+    let g = (group as usize + 7) % 8;
+    let row = wire[g];
+    let minislots = row.minislots;
+    let joined = place(minislot, carry(index, total), minislots);
+    wire[g] = WireRow { minislots: joined };
+    wire
 }
 
-// The minislot of station k: one of its own, or the first.
-fn spread(kind: u64, k: usize) -> usize
-    ensures { λ r. ⌜ r ≤ k ⌝ }
-{
-    if kind == 5 { k } else { 0 }
-}
-
-// The wire that belongs to a table: all words in one minislot, or each in one of its own.
-fn wire_of(kind: u64, words: [u16; 924]) -> [WireRow; 8] {
+// The wire that belongs to a table.
+fn wire_of(stations: [Station; 64]) -> [WireRow; 8] {
     let silent = WireRow {
         minislots: [Minislot { word: 0, count: 0 }; 8],
     };
     let mut wire = [silent; 8];
-    let end = heard(kind);
     let mut k: usize = 0;
-    while k < end {
-        let at = spread(kind, k);
-        let row = wire[at / 8];
-        let mut minislots = row.minislots;
-        let before = minislots[at % 8];
-        let word = before.word | words[k * 14];
-        minislots[at % 8] = Minislot { word, count: 255 };
-        wire[at / 8] = WireRow { minislots };
+    while k < 64 {
+        let s = stations[k];
+        let half = with_request(wire, s.index, s.short);
+        wire = with_request(half, s.index, s.long);
         k += 1;
     }
     wire
@@ -172,24 +224,12 @@ fn wire_of(kind: u64, words: [u16; 924]) -> [WireRow; 8] {
 
 pub(crate) fn table_of(kind: u64, groups: u8) -> Table {
     let counters = counters_of(kind, groups);
-    let first = Station {
-        counters,
-        index: 0,
-        condition: condition_of(kind, 0),
-    };
-    let mut stations = [first; 64];
+    let mut stations = [station_of(kind, counters, 0); 64];
     let mut k: usize = 0;
     while k < 64 {
-        let i = (k % 64) as u16;
-        stations[k] = Station {
-            counters,
-            index: i * 14,
-            condition: condition_of(kind, i),
-        };
+        stations[k] = station_of(kind, counters, (k % 64) as u16);
         k += 1;
     }
-    Table {
-        stations,
-        wire: wire_of(kind, pattern::words()),
-    }
+    let wire = wire_of(stations);
+    Table { stations, wire }
 }

@@ -42,15 +42,21 @@ fn digest_of(answer: Answer) -> u64 {
 
 // ---- a channel under load
 
-// One station in eight is offered a message; most are not free.
+// A station is offered a message of some bytes, most often a short one, and a long one of 48 bytes more.
+fn offered_both(c: LocalChannel, index: u16, bytes: usize) -> LocalChannel {
+    let r = offered(c, index, bytes);
+    let after = offered(r.channel, index, bytes % 12193 + 48);
+    after.channel
+}
+
+// One station in eight is offered both; most are not free.
 fn arrived(c: LocalChannel, s: u64) -> LocalChannel {
     let mut c = c;
     let mut k: usize = 0;
     while k < 64 {
         let station = k as u64;
         if draw(s, station, ARRIVES, 8) == 0 {
-            let r = offered(c, index_of(k, 0), size(s, station));
-            c = r.channel;
+            c = offered_both(c, index_of(k, 0), size(s, station));
         }
         k += 1;
     }

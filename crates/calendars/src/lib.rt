@@ -127,10 +127,12 @@ pub fn calendar_on(s: Station, entries: [u16; 24]) -> Station
     ensures { λ r. ⌜ r ≡ calendarOn entries s ⌝ }
 {
     let counters = s.counters;
-    let condition = s.condition;
+    let short = s.short;
+    let long = s.long;
     Station {
         counters: with_calendar(counters, entries),
         index: s.index,
-        condition,
+        short,
+        long,
     }
 }

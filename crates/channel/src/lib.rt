@@ -33,7 +33,8 @@ pub fn start(table: &mut [Station], wire: [WireRow; 8], m: u8, n: u8, indexes: &
 }
 
 // Offers the station of an index a message of this many bytes. 14: not 1 to 64 stations. 18: the table is not sound. 16: no station of the
-// index. 9: the station is not free. 10: 0 bytes or more than 12,240. A refusal leaves table and wire as they were.
+// index. 10: 0 bytes or more than 12,240. 9: the message record that the length picks, up to 48 bytes the short one, is in use. A refusal
+// leaves table and wire as they were.
 pub fn offer(table: &mut [Station], wire: [WireRow; 8], index: u16, bytes: usize) -> CallReply
     ensures { λ r. ⌜
         (leaves (now (table .exit)) r ≡ channelOfferOf (channelOf (now (table .entry)) wire) index bytes)

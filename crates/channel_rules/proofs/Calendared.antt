@@ -13,6 +13,7 @@ use borrow.Author.Tests.{eqb-true, eqb-false, ne-eqb, le-leb, lt-ltb, le-ltb, lt
 use Rattle.rules.specs.declared.Station.{Station}
 use Rattle.listlaws.specs.Lists.{each, onlyIf}
 use Rattle.rules.specs.Calendars.{freeEntry, ownerIn, entryWithin, someFree}
+use Rattle.rules.specs.Messages.{shortRecord}
 use Rattle.rules.specs.Plain.{among, onChannel}
 use Rattle.rules.proofs.Views.{Sender, senderAt, eqb-self}
 use Rattle.rules.proofs.Shared.{collect, gather}
@@ -76,9 +77,9 @@ owner-among indexes (y ∷ entries) e (suc i) x o = owner-among indexes entries 
 
 -- ---- the one sender of an owned slot
 
--- the station of an index, if station k has it
+-- the station of an index, if station k has it; its short record's number stands for it
 abbrev pub ownerSends : (ℕ → ℕ) → ℕ → ℕ → List Sender
-ownerSends ix x k = onlyIf (eqb (ix k) x) (senderAt k 0 ∷ [])
+ownerSends ix x k = onlyIf (eqb (ix k) x) (senderAt (shortRecord k) 0 ∷ [])
 
 -- a walk in which nobody sends, and one in which just one station does
 none-sends : (f : ℕ → List Sender) (n j : ℕ) → ((k : ℕ) → j ≤ k → k < j + n → f k ≡ []) → collect f n j ≡ []
@@ -96,7 +97,7 @@ one-sends f i v e (suc n) j h lo hi = go (one-sends f i v e n (suc j) (λ k a b.
         rw (none-sends f n (suc j) (λ k a b. h k (omega arith) (omega arith) (λ q. omega arith))) (ap (λ (k : ℕ). f k ++ []) z ∙ rw e)
     go ih false w = let z : j ≢ i = eqb-false j i w in rw (h j (omega arith) (omega arith) z) (ih (omega arith) (omega arith))
 
-pub owner-alone : (ix : ℕ → ℕ) (K x i : ℕ) → ((a b : ℕ) → a < K → b < K → ix a ≡ ix b → a ≡ b) → i < K → ix i ≡ x → gather (ownerSends ix x) K ≡ senderAt i 0 ∷ []
+pub owner-alone : (ix : ℕ → ℕ) (K x i : ℕ) → ((a b : ℕ) → a < K → b < K → ix a ≡ ix b → a ≡ b) → i < K → ix i ≡ x → gather (ownerSends ix x) K ≡ senderAt (shortRecord i) 0 ∷ []
 owner-alone ix K x i distinct h e =
-    one-sends (ownerSends ix x) i (senderAt i 0) (rw (e, eqb-self x)) K 0
+    one-sends (ownerSends ix x) i (senderAt (shortRecord i) 0) (rw (e, eqb-self x)) K 0
     (λ k a b ne. rw (ne-eqb (ix k) x (λ q. ne (distinct k i (omega arith) h (q ∙ sym e))))) (omega arith) (omega arith)

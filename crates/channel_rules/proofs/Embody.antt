@@ -3,14 +3,13 @@
 use mathlib.Core.Path.{_≡_, refl, sym, ap, subst, _∙_}
 use mathlib.Core.Bool.{Bool, true, false, cond, _&&_}
 use mathlib.Core.List.{List, [], _∷_, map}
-use mathlib.Core.Logic.{inl, inr}
+use mathlib.Core.Logic.{_⊎_, inl, inr}
 use mathlib.Core.Option.{Option, none, some}
 use Prim.Native.Nat.{ℕ, zero, suc, _+_, _-_, _≤_, _<_}
 use native.Mathlib.Omega.{arith}
 use lib.Dec.{eqb, ltb, leb}
 use lib.ListN.{length, getD, set, length-map}
 use borrow.Author.Tests.{lt-ltb, le-ltb, ltb-true, ltb-false}
-use Rattle.minislot.specs.declared.Feedback.{Feedback}
 use Rattle.rules.specs.declared.Station.{Station}
 use Rattle.listlaws.specs.Lists.{each, onlyIf}
 use Rattle.rules.specs.Limits.{between}
@@ -20,14 +19,17 @@ use Rattle.rules.specs.StationCalls.{noStation}
 use Rattle.channel_rules.specs.Soundness.{positionOf}
 use Rattle.channel_rules.specs.ChannelCalls.{Channel, ChannelResult, blankRow, loneIndex, loneSegment, deliveredNow}
 use Rattle.rules.specs.Calls.{Start, index}
-use Rattle.rules.specs.Messages.{Message, Segment}
+use Rattle.rules.specs.Messages.{Message, Segment, shortRecord, longRecord}
 use Rattle.rules.specs.Plain.{Plain, plainTurn, plainSenders, sent, stationFrom, inRange}
 use Rattle.rules.proofs.Views.{Sender, senderAt}
 use Rattle.rules.proofs.Clauses.{hearing, loneIndexOf, loneNumberOf, heeded, serves}
 use Rattle.rules.proofs.ClauseLaws.{Placed}
-use Rattle.rules.proofs.Shared.{Table, TableResult, gather, askedSender, askedRow}
-use Rattle.rules.proofs.Relation.{Fits, Agrees}
-use Rattle.rules.proofs.WireRows.{minislotRow, AsksOnce, Indexes, feedbackRow}
+use Rattle.rules.specs.StationLimits.{recordsApart}
+use Rattle.rules.proofs.Parting.{asksIn, apart-parted}
+use Rattle.rules.proofs.Records.{holder-short, holder-long}
+use Rattle.rules.proofs.Shared.{Table, TableResult, indexOf, askedSender, askedPair, askedRow}
+use Rattle.rules.proofs.Relation.{Fits, Agrees, Same}
+use Rattle.rules.proofs.WireRows.{minislotRow, AsksOnce, Indexes, feedbackRow, gather-pairs}
 use Rattle.rules.proofs.Walking.{IsStation, AreStations}
 use Rattle.channel_rules.proofs.EmbodySlot.{asData}
 
@@ -36,7 +38,7 @@ pub record Embodies (S : Start) (t : Table) (ch : Channel) : Type 0 where
   pub stations : AreStations S t 0 (ch .stations)
   pub indexes : map (λ (s : Station). s .index) (ch .stations) ≡ S .indexes
   pub wire : (g : ℕ) → 1 ≤ g → g ≤ 8
-      → getD (ch .wire) (g - 1) blankRow ≡ record { minislots = minislotRow (index S) (length (S .indexes)) (λ j k. askedSender g j k (t .condition k)) 8 1 }
+      → getD (ch .wire) (g - 1) blankRow ≡ record { minislots = minislotRow (indexOf S) (length (S .indexes)) (askedPair g (t .condition)) 8 1 }
   pub groups : length (ch .wire) ≡ 8
 
 pub record Embodied (S : Start) (r : TableResult) (q : ChannelResult) : Type 0 where
@@ -63,19 +65,36 @@ fits-placed S m (Resolving g i t) f = f .3
 fits-placed S m (Urgent i) f = f .1
 fits-placed S m (Long x l t) f = (f .1, f .2, f .3)
 
--- a station asks nothing or once
-pub asks-once : (S : Start) (p : Plain) (k : ℕ) (m : Message) (g j : ℕ) (c : Condition) → Agrees S p k m c → AsksOnce k (askedSender g j k c)
-asks-once S p k m g j Free a = inl refl
-asks-once S p k m g j (Fresh t) a = inl refl
-asks-once S p k m g j (Asked h i t) a = go (eqb h g) (eqb i j)
+-- a record asks nothing or once
+abbrev pub AsksOne : ℕ → ℕ → ℕ → Condition → Type 0
+AsksOne g j k c = (askedSender g j k c ≡ []) ⊎ ((v : ℕ) × (1 ≤ v) × (asksIn g c ≡ true) × (askedSender g j k c ≡ senderAt k v ∷ []))
+
+asks-one : (S : Start) (p : Plain) (k : ℕ) (m : Message) (g j : ℕ) (c : Condition) → Agrees S p k m c → AsksOne g j k c
+asks-one S p k m g j Free a = inl refl
+asks-one S p k m g j (Fresh t) a = inl refl
+asks-one S p k m g j (Asked h i t) a = go (eqb h g) (eqb i j)
   where
-    go : (b c : Bool) → AsksOnce k (onlyIf b (onlyIf c (senderAt k t ∷ [])))
-    go true true = let f : Fits S m (Asked h i t) = a .fits in inr (t, omega (arith, a .some), refl)
+    go : (b c : Bool) → (onlyIf b (onlyIf c (senderAt k t ∷ [])) ≡ []) ⊎ ((v : ℕ) × (1 ≤ v) × (b ≡ true) × (onlyIf b (onlyIf c (senderAt k t ∷ [])) ≡ senderAt k v ∷ []))
+    go true true = let f : Fits S m (Asked h i t) = a .fits in inr (t, omega (arith, a .some), refl, refl)
     go true false = inl refl
     go false c = inl refl
-asks-once S p k m g j (Resolving h i t) a = inl refl
-asks-once S p k m g j (Urgent i) a = inl refl
-asks-once S p k m g j (Long f l t) a = inl refl
+asks-one S p k m g j (Resolving h i t) a = inl refl
+asks-one S p k m g j (Urgent i) a = inl refl
+asks-one S p k m g j (Long f l t) a = inl refl
+
+-- so does a station, of whose two records at most one is asked in a group
+pub pair-once : (S : Start) (condition : ℕ → Condition) (g j k : ℕ) → recordsApart (condition (shortRecord k)) (condition (longRecord k)) ≡ true
+    → AsksOne g j (shortRecord k) (condition (shortRecord k)) → AsksOne g j (longRecord k) (condition (longRecord k)) → AsksOnce (indexOf S) (index S k) (askedPair g condition j k)
+pair-once S condition g j k apart (inl e) (inl f) = inl (rw (e, f))
+pair-once S condition g j k apart (inl e) (inr (v, lo, q, f)) = inr (senderAt (longRecord k) v, ap (index S) (holder-long k), lo, rw (e, f))
+pair-once S condition g j k apart (inr (v, lo, q, e)) (inl f) = inr (senderAt (shortRecord k) v, ap (index S) (holder-short k), lo, rw (e, f))
+pair-once S condition g j k apart (inr (v, lo, q, e)) (inr (u, l, w, f)) = absurd (apart-parted (condition (shortRecord k)) (condition (longRecord k)) apart .asked g q w)
+
+pub asks-once : (S : Start) (p : Plain) (t : Table) → Same S p t → (g j k : ℕ) → AsksOnce (indexOf S) (index S k) (askedPair g (t .condition) j k)
+asks-once S p t R g j k =
+    pair-once S (t .condition) g j k (R .apart k)
+    (asks-one S p (shortRecord k) (R .message (shortRecord k)) g j (t .condition (shortRecord k)) (R .agrees (shortRecord k)))
+    (asks-one S p (longRecord k) (R .message (longRecord k)) g j (t .condition (longRecord k)) (R .agrees (longRecord k)))
 
 pub set-self {ℓ} : {A : Type ℓ} (l : List A) (k : ℕ) (d : A) → k < length l → set l k (getD l k d) ≡ l
 set-self [] k d h = absurd (omega arith)
@@ -152,7 +171,8 @@ names-are S t j (s ∷ l) [] a e h = absurd (omega arith)
 names-are S t j (s ∷ l) (y ∷ x) a e h =
     rw (a .0 .index ∙ (ap (index S) (let e : j ≡ j + 0 = omega arith in e) ∙ sym (h zero (omega arith))), names-are S t (suc j) l x (a .1) (omega arith) (λ i w. h (suc i) (omega arith) ∙ ap (index S) (omega arith)))
 
-pub feedback-is : (ix : ℕ → ℕ) (K : ℕ) (I : Indexes ix K) (condition : ℕ → Condition) (g : ℕ) (once : (j k : ℕ) → AsksOnce k (askedSender g j k (condition k))) (n j : ℕ)
-    → feedbackRow ix K I (λ j k. askedSender g j k (condition k)) once n j ≡ askedRow ix K condition g n j
-feedback-is ix K I condition g once zero j = refl
-feedback-is ix K I condition g once (suc n) j = ap (λ (l : List Feedback). hearing ix (gather (λ k. askedSender g j k (condition k)) K) ∷ l) (feedback-is ix K I condition g once n (suc j))
+pub feedback-is : (ix jx : ℕ → ℕ) (K : ℕ) (I : Indexes ix K) (condition : ℕ → Condition) (g : ℕ) (once : (j k : ℕ) → AsksOnce jx (ix k) (askedPair g condition j k)) (n j : ℕ)
+    → feedbackRow ix jx K I (askedPair g condition) once n j ≡ askedRow jx (shortRecord K) condition g n j
+feedback-is ix jx K I condition g once zero j = refl
+feedback-is ix jx K I condition g once (suc n) j =
+    rw (feedback-is ix jx K I condition g once n (suc j), gather-pairs (λ r. askedSender g j r (condition r)) K)

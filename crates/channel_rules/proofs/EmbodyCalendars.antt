@@ -13,13 +13,14 @@ use Rattle.rules.specs.Settings.{calendarOn}
 use Rattle.channel_rules.specs.Soundness.{soundTable, entriesOn}
 use Rattle.channel_rules.specs.ChannelCalls.{Channel, hasStations, refused, DataSent, loneIndex, loneSegment, calendarSet, channelCalendarNumberOf, channelCalendarOf}
 use Rattle.rules.specs.Calls.{Start, index, Calendar}
-use Rattle.rules.specs.Messages.{Segment}
+use Rattle.rules.specs.Messages.{Segment, shortRecord}
 use Rattle.rules.specs.Plain.{Plain, plainSenders, among, onChannel}
 use Rattle.rules.proofs.Views.{senderAt}
 use Rattle.rules.proofs.Clauses.{hearing, loneIndexOf, loneNumberOf, ownedOr}
-use Rattle.rules.proofs.Shared.{Table, gather, senderIf, tableOwner, tableRefuse, tableSet, tableCall}
+use Rattle.rules.proofs.Records.{holder-short}
+use Rattle.rules.proofs.Shared.{Table, gather, records, indexOf, senderIf, tableOwner, tableRefuse, tableSet, tableCall}
 use Rattle.rules.proofs.Relation.{Same}
-use Rattle.rules.proofs.WireRows.{Indexes}
+use Rattle.rules.proofs.WireRows.{Indexes, gather-pairs}
 use Rattle.rules.proofs.Walking.{IsStation, AreStations}
 use Rattle.channel_rules.proofs.Calendared.{entries-same, free-same, among-at, owner-among, owner-alone}
 use Rattle.channel_rules.proofs.EmbodySlot.{asData, sendersIn}
@@ -28,23 +29,26 @@ use Rattle.channel_rules.proofs.Embody.{Embodies, Embodied, lone-index-
 -- ---- an owned slot's sender
 
 -- what an answer tells of the data senders d: their number, and the index and segment of a lone one
-pub record TellsOf (o : Option ℕ) (ix : ℕ → ℕ) (K : ℕ) (s : ℕ → ℕ) (d : List DataSent) : Type 0 where
-  pub number : length d ≡ ownedOr o (λ i. 1) (length (gather (λ k. senderIf k (s k)) K))
-  pub index : loneIndex d ≡ ownedOr o (λ i. i) (loneIndexOf (hearing ix (gather (λ k. senderIf k (s k)) K)))
-  pub segment : loneSegment d ≡ ownedOr o (λ i. 0) (loneNumberOf (hearing ix (gather (λ k. senderIf k (s k)) K)))
+pub record TellsOf (o : Option ℕ) (S : Start) (s : ℕ → ℕ) (d : List DataSent) : Type 0 where
+  pub number : length d ≡ ownedOr o (λ i. 1) (length (gather (λ k. senderIf k (s k)) (records S)))
+  pub index : loneIndex d ≡ ownedOr o (λ i. i) (loneIndexOf (hearing (indexOf S) (gather (λ k. senderIf k (s k)) (records S))))
+  pub segment : loneSegment d ≡ ownedOr o (λ i. 0) (loneNumberOf (hearing (indexOf S) (gather (λ k. senderIf k (s k)) (records S))))
 
-pub tells-of : (o : Option ℕ) (ix : ℕ → ℕ) (K : ℕ) → Indexes ix K → ((x : ℕ) → o ≡ some x → (i : ℕ) × (i < K) × (ix i ≡ x)) → (s : ℕ → ℕ) (d : List DataSent)
-    → d ≡ map (asData ix) (gather (λ k. sendersIn o ix k (s k)) K) → TellsOf o ix K s d
-tells-of none ix K I on s d e =
+pub tells-of : (o : Option ℕ) (S : Start) → Indexes (index S) (length (S .indexes)) → ((x : ℕ) → o ≡ some x → (i : ℕ) × (i < length (S .indexes)) × (index S i ≡ x)) → (s : ℕ → ℕ) (d : List DataSent)
+    → d ≡ map (asData (indexOf S)) (gather (sendersIn o S s) (length (S .indexes))) → TellsOf o S s d
+tells-of none S I on s d e =
     record {
-      number = ap length e ∙ length-map (gather (λ k. senderIf k (s k)) K) (asData ix);
-      index = ap loneIndex e ∙ lone-index-is ix (gather (λ k. senderIf k (s k)) K);
-      segment = ap loneSegment e ∙ lone-segment-is ix (gather (λ k. senderIf k (s k)) K);
+      number = ap length all ∙ length-map (gather (λ k. senderIf k (s k)) (records S)) (asData (indexOf S));
+      index = ap loneIndex all ∙ lone-index-is (indexOf S) (gather (λ k. senderIf k (s k)) (records S));
+      segment = ap loneSegment all ∙ lone-segment-is (indexOf S) (gather (λ k. senderIf k (s k)) (records S));
     }
-tells-of (some x) ix K I on s d e =
+  where
+    all : d ≡ map (asData (indexOf S)) (gather (λ k. senderIf k (s k)) (records S))
+    all = e ∙ ap (map (asData (indexOf S))) (gather-pairs (λ k. senderIf k (s k)) (length (S .indexes)))
+tells-of (some x) S I on s d e =
     let (i, h, q) = on x refl in
-    let alone : d ≡ map (asData ix) (senderAt i 0 ∷ []) = e ∙ ap (map (asData ix)) (owner-alone ix K x i (I .distinct) h q) in
-    record { number = ap length alone; index = ap loneIndex alone ∙ q; segment = ap loneSegment alone }
+    let alone : d ≡ map (asData (indexOf S)) (senderAt (shortRecord i) 0 ∷ []) = e ∙ ap (map (asData (indexOf S))) (owner-alone (index S) (length (S .indexes)) x i (I .distinct) h q) in
+    record { number = ap length alone; index = ap loneIndex alone ∙ ap (index S) (holder-short i) ∙ q; segment = ap loneSegment alone }
 
 -- an owner is one of the start's stations
 pub owner-station : (S : Start) (p : Plain) (t : Table) → Same S p t → (x : ℕ) → tableOwner t ≡ some x → (i : ℕ) × (i < length (S .indexes)) × (index S i ≡ x)
@@ -66,13 +70,14 @@ module _ (S : Start) (t : Table) (ch : Channel) (E : Embodies S t ch) (entries :
         groups = a .groups;
         next = a .next;
         urgent = a .urgent;
-        long = a .long;
+        long-queue = a .long-queue;
         arrays = a .arrays;
         resolution = a .resolution;
         mark = a .mark;
         calendar = refl;
         position = a .position;
-        condition = a .condition;
+        short = a .short;
+        long = a .long;
       }
 
   calendars-are : (j : ℕ) (l : List Station) → AreStations S t j l → AreStations S (tableSet t entries .state) j (map (calendarOn entries) l)

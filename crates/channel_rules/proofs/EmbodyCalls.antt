@@ -4,13 +4,12 @@ use mathlib.Core.Path.{_≡_, refl, sym, ap, subst, _∙_}
 use mathlib.Core.Bool.{Bool, true, false, cond}
 use mathlib.Core.List.{List, [], _∷_, map}
 use mathlib.Core.Option.{none, some}
-use Prim.Native.Nat.{ℕ, zero, suc, _+_, _-_, _≤_, _<_}
+use Prim.Native.Nat.{ℕ, suc, _+_, _-_, _≤_, _<_}
 use native.Mathlib.Omega.{arith}
 use native.Mathlib.Nat.{zero-add}
 use lib.Dec.{eqb, ltb}
 use lib.ListN.{length, getD, set, take, length-set, length-map}
-use borrow.Author.Tests.{eqb-true, ne-eqb, le-leb, ltb-true}
-use Rattle.message.specs.Message.{fitsMessage, slotsFor}
+use borrow.Author.Tests.{eqb-true, le-leb, ltb-true}
 use Rattle.minislot.specs.declared.Minislot.{Minislot}
 use Rattle.minislot.specs.declared.Feedback.{Feedback}
 use Rattle.minislot.specs.declared.Reading.the-variants.{Heard}
@@ -24,33 +23,35 @@ use Rattle.rules.specs.Limits.{between}
 use Rattle.rules.specs.Hearing.{wordsOf, countsOf}
 use Rattle.rules.specs.Queueing.{placesAfter, passes, stepOneOf}
 use Rattle.rules.specs.Turns.{turnOf}
-use Rattle.rules.specs.declared.Condition.{Condition}
-use Rattle.rules.specs.declared.Condition.the-variants.{Free, Fresh}
-use Rattle.rules.specs.StationLimits.{stationWithin}
+use Rattle.rules.specs.StationLimits.{shortWithin, longWithin, stationWithin}
 use Rattle.rules.specs.OwnHearing.{hearsItself}
 use Rattle.rules.specs.Refusing.{unless, byNumber}
-use Rattle.rules.specs.StationCalls.{isFree, withCondition, noStation, takingNumberOf}
+use Rattle.rules.specs.StationCalls.{noStation, takingNumberOf}
+use Rattle.rules.specs.Messages.{shortRecord, longRecord}
 use Rattle.channel_rules.specs.Soundness.{tableCounters, recordsWithin, positionOf, soundTable}
 use Rattle.channel_rules.specs.ChannelCalls.{Channel, ChannelResult, blankRow, hasStations, refused, stationOf, takenAt, channelOfferNumberOf, channelOfferOf, heardRow, feedbackHeard, slotsOf, slotsHeard, outcomeHeard, newRow, dataSent, sentOf, deliveredNow, slotAnswer, slotThrough, channelSlotNumberOf, channelSlotOf, channelCall}
-use Rattle.rules.specs.declared.Answer.the-variants.{Taken}
 use Rattle.rules.specs.Calls.{Start, index, Call, Offer, Slot, Calendar}
 use Rattle.rules.specs.Plain.{Plain, plainOwner, plainSettled, stationFrom, inRange}
 use Rattle.rules.proofs.QueueingLaws.{fits-cond}
 use Rattle.rules.proofs.Views.{Sender, eqb-self}
-use Rattle.rules.proofs.Clauses.{asks, heeded, serves, ownedOr, requestSender}
-use Rattle.rules.proofs.Shared.{Table, gather, askedSender, senderIf, tableRefuse, tableAccept, tableOffer, tableRow, tablePlaces, tableSuccess, tableOwner, tableWent, tableSends, tableAnswer, tableSlot, tableSettled, tableCall, tableCondition}
-use Rattle.rules.proofs.Relation.{Fits, Same}
+use Rattle.rules.proofs.Clauses.{asks, heeded, serves, ownedOr}
+use Rattle.rules.proofs.Records.{holder}
+use Rattle.rules.proofs.Parting.{apart-parted, settle-parted, fresh-settled}
+use Rattle.rules.proofs.RecordKinds.{fits-short, fits-long, one-sends, fresh-silent}
+use Rattle.rules.proofs.Shared.{Table, gather, pairOf, records, indexOf, askedSender, askedPair, tableHeld, senderIf, tableRefuse, tableOffer, tableRow, tablePlaces, tableSuccess, tableOwner, tableWent, tableSends, tableAnswer, tableSlot, tableSettled, tableCall, tableCondition}
+use Rattle.rules.proofs.Relation.{Same}
 use Rattle.rules.proofs.ServeViews.{asks-fits}
-use Rattle.rules.proofs.SlotStep.{and-both, went-cong, owner-eq, settled-eq, turn-eq, segmentsSent, settled-fits, senders-eq}
-use Rattle.rules.proofs.CallStep.{is-free, picks-ok}
+use Rattle.rules.proofs.SlotStep.{and-both, went-cong, owner-eq, settled-eq, turn-eq, segmentsSent, settled-fits, senders-eq, stands-inside}
+use Rattle.rules.proofs.CallStep.{picks-ok}
 use Rattle.channel_rules.proofs.Requested.{wire-here, wire-far}
-use Rattle.rules.proofs.WireRows.{AsksOnce, minislotRow, length-row, take-row, row-cong, row-reads, heard-number, heard-feedbacks}
+use Rattle.rules.proofs.WireRows.{AsksOnce, minislotRow, length-row, take-row, pair-cong, row-cong, row-reads, heard-number, heard-feedbacks}
 use Rattle.rules.proofs.OwnHears.{hears-row}
-use Rattle.rules.proofs.Walking.{IsStation, AreStations, get-set, tableQueued, tableSettledBy, queued-is, owner-is, success-is, slot-passes, offer-is}
+use Rattle.rules.proofs.Walking.{IsStation, AreStations, Steady, get-set, tableQueued, tableSettledBy, tableRequest, queued-is, owner-is, success-is, slot-passes}
 use Rattle.channel_rules.proofs.EmbodySlot.{asData, sendersIn, Through, AllThrough, walk-are, data-are, row-are}
 use Rattle.channel_rules.proofs.Gathering.{slots-length}
 use Rattle.channel_rules.proofs.SoundTests.{sound-tests}
 use Rattle.channel_rules.proofs.Embody.{Embodies, Embodied, GoodStart, fits-placed, asks-once, positionIn, position-map, position-eq, picks-same, one-served, both, names-are, feedback-is, station-at, same-length}
+use Rattle.channel_rules.proofs.EmbodyOffers.{offer-at}
 use Rattle.channel_rules.proofs.EmbodyCalendars.{TellsOf, tells-of, owner-station, as-plain, calendar-call}
 use Rattle.rules.specs.Outcome.{successes, outcomeBy, outcomeOf}
 
@@ -76,14 +77,11 @@ module _ (S : Start) (G : GoodStart S) (p : Plain) (t : Table) (R : Same S p t) 
 
   -- ---- the row heard
 
-  abbrev askedHere : ℕ → ℕ → List Sender
-  askedHere j k = askedSender (t .next) j k (t .condition k)
-
-  once : (j k : ℕ) → AsksOnce k (askedSender (t .next) j k (t .condition k))
-  once j k = asks-once S p k (R .message k) (t .next) j (t .condition k) (R .agrees k)
+  once : (j k : ℕ) → AsksOnce (indexOf S) (index S k) (askedPair (t .next) (t .condition) j k)
+  once j k = asks-once S p t R (t .next) j k
 
   abbrev wireRow : List Minislot
-  wireRow = minislotRow (index S) (length (S .indexes)) (λ j k. askedSender (t .next) j k (t .condition k)) (S .m) 1
+  wireRow = minislotRow (indexOf S) (length (S .indexes)) (askedPair (t .next) (t .condition)) (S .m) 1
 
   heard-row : heardRow ch ≡ wireRow
   unfolding heardRow
@@ -91,12 +89,12 @@ module _ (S : Start) (G : GoodStart S) (p : Plain) (t : Table) (R : Same S p t) 
       ap (λ (n : ℕ). take n (getD (ch .wire) (tableCounters (ch .stations) .next - 1) blankRow .minislots)) (is-first .minislots)
       ∙ ap (λ (g : ℕ). take (S .m) (getD (ch .wire) (g - 1) blankRow .minislots)) (is-first .next)
       ∙ ap (λ (r : WireRow). take (S .m) (r .minislots)) (E .wire (t .next) gl gh)
-      ∙ take-row (index S) (length (S .indexes)) (λ j k. askedSender (t .next) j k (t .condition k)) (S .m) 8 1 (G .m-high)
+      ∙ take-row (indexOf S) (length (S .indexes)) (askedPair (t .next) (t .condition)) (S .m) 8 1 (G .m-high)
 
   row-read : readings (wordsOf wireRow) (countsOf wireRow) ≡ map Heard (tableRow S t)
   row-read =
-      row-reads (index S) (length (S .indexes)) (G .indexes) (λ j k. askedSender (t .next) j k (t .condition k)) once (S .m) 1
-      ∙ ap (map Heard) (feedback-is (index S) (length (S .indexes)) (G .indexes) (t .condition) (t .next) once (S .m) 1)
+      row-reads (index S) (indexOf S) (length (S .indexes)) (G .indexes) (askedPair (t .next) (t .condition)) once (S .m) 1
+      ∙ ap (map Heard) (feedback-is (index S) (indexOf S) (length (S .indexes)) (G .indexes) (t .condition) (t .next) once (S .m) 1)
 
   row-feedbacks : feedbacks (readings (wordsOf wireRow) (countsOf wireRow)) ≡ tableRow S t
   row-feedbacks = ap feedbacks row-read ∙ heard-feedbacks (tableRow S t)
@@ -119,7 +117,7 @@ module _ (S : Start) (G : GoodStart S) (p : Plain) (t : Table) (R : Same S p t) 
   hears-own : (k : ℕ) (s : Station) → k < length (S .indexes) → IsStation S t k s → hearsItself s (wordsOf wireRow) (tableRow S t) ≡ true
   unfolding hearsItself
   hears-own k s h a =
-      rw (a .index, a .next, a .condition) (hears-row (index S) (length (S .indexes)) k (G .indexes) h (t .condition) (R .outside) (t .next) (t .condition k) refl (S .m) 1 (omega arith))
+      rw (a .index, a .next, a .short, a .long) (hears-row (index S) (length (S .indexes)) k (G .indexes) h (t .condition) (R .outside) (R .apart k) (t .next) (S .m) 1 (omega arith))
 
   pub own-heard : (k : ℕ) (s : Station) → k < length (S .indexes) → IsStation S t k s
       → hearsItself s (wordsOf (heardRow ch)) (feedbacks (readings (wordsOf (heardRow ch)) (countsOf (heardRow ch)))) ≡ true
@@ -139,21 +137,41 @@ module _ (S : Start) (G : GoodStart S) (p : Plain) (t : Table) (R : Same S p t) 
               row-number row-feedbacks
               (rw (queued-is S t gl gh (tableRow S t) k s a) e7)
               (hears-own k s h a);
-          before = fits-placed S (R .message k) (t .condition k) (R .agrees k .fits);
-          settled = fits-placed S (R .message k) (tableSettledBy t (tableRow S t) k) fit;
-          asked =
-              fits-placed S (R .message k) (asks (tableQueued t (tableRow S t) .resolution) (t .next) (pick k) (tableSettledBy t (tableRow S t) k))
-              (asks-fits S (t .next) (pick k) (R .message k) gl (omega (arith, R .next, R .high)) (jl k) (jh k) (tableQueued t (tableRow S t) .resolution) (tableSettledBy t (tableRow S t) k) fit);
+          parted =
+              settle-parted (tableSuccess t (tableRow S t)) (t .next) (tableRow S t) (tablePlaces t) (t .condition (shortRecord k)) (t .condition (longRecord k))
+              (stands-inside S p t R (t .next) (shortRecord k)) (stands-inside S p t R (t .next) (longRecord k))
+              (apart-parted (t .condition (shortRecord k)) (t .condition (longRecord k)) (R .apart k));
+          lone = one-sends (tableOwner t) (tableSettled S t .urgent) (tableSettled S t .long) (tableSettled S t .resolution) (tableSettledBy t (tableRow S t) (shortRecord k)) (tableSettledBy t (tableRow S t) (longRecord k)) brief lengthy;
+          held = λ e.
+              fresh-silent (tableOwner t) (tableSettled S t .urgent) (tableSettled S t .long) (tableSettled S t .resolution) (tableSettledBy t (tableRow S t) (longRecord k)) lengthy
+              (fresh-settled (tableSuccess t (tableRow S t)) (t .next) (tableRow S t) (tablePlaces t) (t .condition (longRecord k)) ∙ e);
         }
       where
-        fit : Fits S (R .message k) (tableSettledBy t (tableRow S t) k)
-        fit = settled-fits S pick jl jh p t R k
+        brief : shortWithin (tableSettledBy t (tableRow S t) (shortRecord k)) ≡ true
+        brief = fits-short S (R .message (shortRecord k)) k (tableSettledBy t (tableRow S t) (shortRecord k)) (R .agrees (shortRecord k) .mine) (settled-fits S pick jl jh p t R (shortRecord k))
 
-        row-length : length (minislotRow (index S) (length (S .indexes)) (λ j k. askedSender (t .next) j k (t .condition k)) (S .m) 1) ≡ S .m
-        row-length = length-row (index S) (length (S .indexes)) (λ j k. askedSender (t .next) j k (t .condition k)) (S .m) 1
+        lengthy : longWithin (tableSettledBy t (tableRow S t) (longRecord k)) ≡ true
+        lengthy =
+            fits-long S (R .message (longRecord k)) k (tableSettledBy t (tableRow S t) (longRecord k)) (R .agrees (longRecord k) .mine) (R .agrees (longRecord k) .some)
+            (settled-fits S pick jl jh p t R (longRecord k))
+
+        row-length : length (minislotRow (indexOf S) (length (S .indexes)) (askedPair (t .next) (t .condition)) (S .m) 1) ≡ S .m
+        row-length = length-row (indexOf S) (length (S .indexes)) (askedPair (t .next) (t .condition)) (S .m) 1
+
+    -- every place counts from 1, all along
+    steady : Steady t (tableRow S t) pick
+    steady =
+        record {
+          before = λ r. fits-placed S (R .message r) (t .condition r) (R .agrees r .fits);
+          settled = λ r. fits-placed S (R .message r) (tableSettledBy t (tableRow S t) r) (settled-fits S pick jl jh p t R r);
+          asked = λ r b.
+              fits-placed S (R .message r) (asks b (tableQueued t (tableRow S t) .resolution) (t .next) (pick (holder r)) (tableSettledBy t (tableRow S t) r))
+              (asks-fits S (t .next) (pick (holder r)) (R .message r) gl (omega (arith, R .next, R .high)) (jl (holder r)) (jh (holder r)) b (tableQueued t (tableRow S t) .resolution) (tableSettledBy t (tableRow S t) r)
+              (settled-fits S pick jl jh p t R r));
+        }
 
     all-through : (j : ℕ) (l : List Station) → j + length l ≤ length (S .indexes) → AreStations S t j l → each stationWithin l ≡ true
-        → AllThrough S t gl gh (wordsOf wireRow) (countsOf wireRow) (tableRow S t) pick j l
+        → AllThrough S t gl gh (wordsOf wireRow) (countsOf wireRow) (tableRow S t) pick jl steady j l
     all-through j [] h a w = tt
     all-through j (s ∷ l) h a w =
         let (x, y) = and-both (stationWithin s) (each stationWithin l) w in
@@ -165,11 +183,11 @@ module _ (S : Start) (G : GoodStart S) (p : Plain) (t : Table) (R : Same S p t) 
       abbrev results : List StationSlot
       results = slotsOf (wordsOf wireRow) (countsOf wireRow) (ch .stations) picks
 
-      through : AllThrough S t gl gh (wordsOf wireRow) (countsOf wireRow) (tableRow S t) pick 0 (ch .stations)
+      through : AllThrough S t gl gh (wordsOf wireRow) (countsOf wireRow) (tableRow S t) pick jl steady 0 (ch .stations)
       through = all-through 0 (ch .stations) (omega (arith, (same-length S t ch E))) (E .stations) within-all
 
       after-are : AreStations S (tableWent S pick t (tableRow S t) (tableSuccess t (tableRow S t)) (tableSettled S t)) 0 (map (λ (r : StationSlot). r .station) results)
-      after-are = walk-are S t gl gh (wordsOf wireRow) (countsOf wireRow) (tableRow S t) pick 0 (ch .stations) picks el ep (E .stations) through
+      after-are = walk-are S t gl gh (wordsOf wireRow) (countsOf wireRow) (tableRow S t) pick jl steady 0 (ch .stations) picks el ep (E .stations) through
 
       after-names : map (λ (s : Station). s .index) (map (λ (r : StationSlot). r .station) results) ≡ S .indexes
       after-names =
@@ -178,41 +196,49 @@ module _ (S : Start) (G : GoodStart S) (p : Plain) (t : Table) (R : Same S p t) 
           (λ i w. ap (index S) (sym (zero-add i)))
 
       new-row : newRow results 8 1
-          ≡ minislotRow (index S) (length (S .indexes)) (λ i k. requestSender (tableSettled S t .resolution) (t .next) (pick k) i k (tableSettledBy t (tableRow S t) k)) 8 1
-      new-row = row-are S t gl gh (wordsOf wireRow) (countsOf wireRow) (tableRow S t) pick (ch .stations) picks el ep (E .stations) through 8 1 (omega arith) ∙ rw (same-length S t ch E)
+          ≡ minislotRow (indexOf S) (length (S .indexes)) (λ i. pairOf (tableRequest t (tableRow S t) pick i)) 8 1
+      new-row = row-are S t gl gh (wordsOf wireRow) (countsOf wireRow) (tableRow S t) pick jl steady (ch .stations) picks el ep (E .stations) through 8 1 (omega arith) ∙ rw (same-length S t ch E)
 
       after-wire : (g : ℕ) → 1 ≤ g → g ≤ 8
           → getD (set (ch .wire) (tableCounters (ch .stations) .next - 1) (record { minislots = newRow results 8 1 })) (g - 1) blankRow
-          ≡ record { minislots = minislotRow (index S) (length (S .indexes)) (λ j k. askedSender g j k (tableCondition pick t (tableRow S t) (tableSuccess t (tableRow S t)) (tableSettled S t) k)) 8 1 }
+          ≡ record { minislots = minislotRow (indexOf S) (length (S .indexes)) (askedPair g (tableCondition pick t (tableRow S t) (tableSuccess t (tableRow S t)) (tableSettled S t))) 8 1 }
       after-wire g lo hi =
           rw (is-first .next, new-row) (get-set (ch .wire) (t .next) g _ blankRow gl lo (omega (arith, E .groups)) ∙ go (eqb g (t .next)) refl)
         where
+          here-at : (j r : ℕ) → askedSender (t .next) j r (tableCondition pick t (tableRow S t) (tableSuccess t (tableRow S t)) (tableSettled S t) r) ≡ tableRequest t (tableRow S t) pick j r
+          here-at j r =
+              wire-here (tableSuccess t (tableRow S t)) (t .next) (tableRow S t) (tablePlaces t) (tableHeld t r) (heeded (tableOwner t) (tableSettled S t .urgent)) (heeded (tableOwner t) (tableSettled S t .long))
+              (tableSettled S t .resolution) (pick (holder r)) j r (t .condition r)
+
+          far-at : eqb g (t .next) ≡ false → (j r : ℕ) → askedSender g j r (tableCondition pick t (tableRow S t) (tableSuccess t (tableRow S t)) (tableSettled S t) r) ≡ askedSender g j r (t .condition r)
+          far-at e j r =
+              wire-far (tableSuccess t (tableRow S t)) (t .next) (tableRow S t) (tablePlaces t) (tableHeld t r) (heeded (tableOwner t) (tableSettled S t .urgent)) (heeded (tableOwner t) (tableSettled S t .long))
+              (tableSettled S t .resolution) (pick (holder r)) j r (t .condition r) g e
+
           go : (x : Bool) → eqb g (t .next) ≡ x
-              → cond x (record { minislots = minislotRow (index S) (length (S .indexes)) (λ i k. requestSender (tableSettled S t .resolution) (t .next) (pick k) i k (tableSettledBy t (tableRow S t) k)) 8 1 })
+              → cond x (record { minislots = minislotRow (indexOf S) (length (S .indexes)) (λ i. pairOf (tableRequest t (tableRow S t) pick i)) 8 1 })
               (getD (ch .wire) (g - 1) blankRow)
-              ≡ record { minislots = minislotRow (index S) (length (S .indexes)) (λ j k. askedSender g j k (tableCondition pick t (tableRow S t) (tableSuccess t (tableRow S t)) (tableSettled S t) k)) 8 1 }
+              ≡ record { minislots = minislotRow (indexOf S) (length (S .indexes)) (askedPair g (tableCondition pick t (tableRow S t) (tableSuccess t (tableRow S t)) (tableSettled S t))) 8 1 }
           go true e =
               rw (eqb-true g (t .next) e)
               (ap (λ (l : List Minislot). record { minislots = l })
-              (row-cong (index S) (length (S .indexes)) _ _
-              (λ j k. sym (wire-here (tableSuccess t (tableRow S t)) (t .next) (tableRow S t) (tablePlaces t) (heeded (tableOwner t) (tableSettled S t .urgent)) (heeded (tableOwner t) (tableSettled S t .long)) (tableSettled S t .resolution) (pick k) j k (t .condition k))) 8 1))
+              (row-cong (indexOf S) (length (S .indexes)) _ _ (λ j k. pair-cong (λ r. sym (here-at j r)) k) 8 1))
           go false e =
               E .wire g lo hi
               ∙ ap (λ (l : List Minislot). record { minislots = l })
-              (row-cong (index S) (length (S .indexes)) _ _
-              (λ j k. sym (wire-far (tableSuccess t (tableRow S t)) (t .next) (tableRow S t) (tablePlaces t) (heeded (tableOwner t) (tableSettled S t .urgent)) (heeded (tableOwner t) (tableSettled S t .long)) (tableSettled S t .resolution) (pick k) j k (t .condition k) g e)) 8 1)
+              (row-cong (indexOf S) (length (S .indexes)) _ _ (λ j k. pair-cong (λ r. sym (far-at e j r)) k) 8 1)
 
       abbrev senders : List Sender
-      senders = gather (λ k. senderIf k (tableSends t (tableRow S t) (tableSuccess t (tableRow S t)) (tableSettled S t) k)) (length (S .indexes))
+      senders = gather (λ k. senderIf k (tableSends t (tableRow S t) (tableSuccess t (tableRow S t)) (tableSettled S t) k)) (records S)
 
       data-senders : dataSent results
-          ≡ map (asData (index S))
-          (gather (λ k. sendersIn (tableOwner t) (index S) k (tableSends t (tableRow S t) (tableSuccess t (tableRow S t)) (tableSettled S t) k)) (length (S .indexes)))
-      data-senders = data-are S t gl gh (wordsOf wireRow) (countsOf wireRow) (tableRow S t) pick 0 (ch .stations) picks el ep (E .stations) through ∙ rw (same-length S t ch E)
+          ≡ map (asData (indexOf S))
+          (gather (sendersIn (tableOwner t) S (tableSends t (tableRow S t) (tableSuccess t (tableRow S t)) (tableSettled S t))) (length (S .indexes)))
+      data-senders = data-are S t gl gh (wordsOf wireRow) (countsOf wireRow) (tableRow S t) pick jl steady 0 (ch .stations) picks el ep (E .stations) through ∙ rw (same-length S t ch E)
 
-      tells : TellsOf (tableOwner t) (index S) (length (S .indexes)) (tableSends t (tableRow S t) (tableSuccess t (tableRow S t)) (tableSettled S t)) (dataSent results)
+      tells : TellsOf (tableOwner t) S (tableSends t (tableRow S t) (tableSuccess t (tableRow S t)) (tableSettled S t)) (dataSent results)
       tells =
-          tells-of (tableOwner t) (index S) (length (S .indexes)) (G .indexes) (owner-station S p t R)
+          tells-of (tableOwner t) S (G .indexes) (owner-station S p t R)
           (tableSends t (tableRow S t) (tableSuccess t (tableRow S t)) (tableSettled S t)) (dataSent results) data-senders
 
       delivered : deliveredNow (turnOf (tableOwner t) (tableSettled S t)) (ownedOr (tableOwner t) (λ i. 1) (length senders))
@@ -305,79 +331,6 @@ module _ (S : Start) (G : GoodStart S) (p : Plain) (t : Table) (R : Same S p t) 
           (λ c. slot-embodied (λ k. getD picks k 1) (λ k. picks-ok (S .m) (omega (arith, G .m-low)) picks er k .0) (λ k. picks-ok (S .m) (omega (arith, G .m-low)) picks er k .1) c picks el
           (λ i h. ap (λ (x : ℕ). getD picks x 1) (sym (zero-add i))))))
 
-  -- an offer: station k
-  module _ (k : ℕ) (h : k < length (ch .stations)) where
-    abbrev it : Station
-    it = getD (ch .stations) k noStation
-
-    is-it : IsStation S t k (getD (ch .stations) k noStation)
-    is-it = subst (λ (i : ℕ). IsStation S t i (getD (ch .stations) k noStation)) (zero-add k) (station-at S t 0 (ch .stations) (E .stations) k h)
-
-    -- a record with a condition of its own, in the table with a fresh message at k
-    accept-is : (v j : ℕ) (s : Station) (c : Condition) → IsStation S t j s → c ≡ cond (eqb j k) (Fresh v) (t .condition j) → IsStation S (tableAccept t k v .state) j (withCondition s c)
-    accept-is v j s c a e =
-        record {
-          index = a .index;
-          minislots = a .minislots;
-          groups = a .groups;
-          next = a .next;
-          urgent = a .urgent;
-          long = a .long;
-          arrays = a .arrays;
-          resolution = a .resolution;
-          mark = a .mark;
-          calendar = a .calendar;
-          position = a .position;
-          condition = e;
-        }
-
-    -- the other stations keep theirs
-    other-is : (v j : ℕ) (s : Station) → IsStation S t j s → (j ≡ k → ⊥) → IsStation S (tableAccept t k v .state) j s
-    other-is v j s a ne = accept-is v j s (s .condition) a (a .condition ∙ rw (ne-eqb j k ne))
-
-    others-are : (v j : ℕ) (l : List Station) → AreStations S t j l → k < j → AreStations S (tableAccept t k v .state) j l
-    others-are v j [] a q = tt
-    others-are v j (s ∷ l) a q = (other-is v j s (a .0) (λ e. omega arith), others-are v (suc j) l (a .1) (omega arith))
-
-    set-are : (v i j : ℕ) (l : List Station) → AreStations S t j l → i < length l → j + i ≡ k
-        → AreStations S (tableAccept t k v .state) j (set l i (withCondition (getD l i noStation) (Fresh v)))
-    set-are v i j [] a w e = absurd (omega arith)
-    set-are v zero j (s ∷ l) a w e =
-        (accept-is v j s (Fresh v) (a .0) (rw (let q : j ≡ k = omega arith in q, eqb-self k)), others-are v (suc j) l (a .1) (omega arith))
-    set-are v (suc i) j (s ∷ l) a w e = (other-is v j s (a .0) (λ x. omega arith), set-are v i (suc j) l (a .1) (omega arith) (omega arith))
-
-    set-names : (v i : ℕ) (l : List Station) → map (λ (s : Station). s .index) (set l i (withCondition (getD l i noStation) (Fresh v))) ≡ map (λ (s : Station). s .index) l
-    set-names v i [] = refl
-    set-names v zero (s ∷ l) = refl
-    set-names v (suc i) (s ∷ l) = ap (λ (z : List ℕ). s .index ∷ z) (set-names v i l)
-
-    accepted : (v : ℕ) → t .condition k ≡ Free → Embodied S (tableAccept t k v) (record { state = record { stations = set (ch .stations) k (withCondition it (Fresh v)); wire = ch .wire }; answer = Taken v })
-    accepted v free =
-        record {
-          state =
-              record {
-                stations = set-are v k 0 (ch .stations) (E .stations) h (zero-add k);
-                indexes = set-names v k (ch .stations) ∙ E .indexes;
-                wire = λ g lo hi. E .wire g lo hi ∙ ap (λ (l : List Minislot). record { minislots = l }) (row-cong (index S) (length (S .indexes)) _ _ (λ j i. go g j i (eqb i k) refl) 8 1);
-                groups = E .groups;
-              };
-          answer = refl;
-        }
-      where
-        go : (g j i : ℕ) (b : Bool) → eqb i k ≡ b → askedSender g j i (t .condition i) ≡ askedSender g j i (cond b (Fresh v) (t .condition i))
-        go g j i true e = rw (eqb-true i k e, free)
-        go g j i false e = refl
-
-    offer-at : (bytes : ℕ) → Embodied S (tableOffer t bytes (some k)) (byNumber (takingNumberOf (it .condition) bytes) (refused ch) (takenAt ch k bytes))
-    offer-at bytes = rw (offer-is t k bytes, is-it .condition) (go (isFree (t .condition k)) refl (fitsMessage bytes))
-      where
-        go : (b : Bool) → isFree (t .condition k) ≡ b → (c : Bool)
-            → Embodied S (byNumber (unless b 9 (unless c 10 0)) (tableRefuse t) (tableAccept t k (slotsFor bytes)))
-            (byNumber (unless b 9 (unless c 10 0)) (refused ch) (takenAt ch k bytes))
-        go true e true = accepted (slotsFor bytes) (is-free (t .condition k) e)
-        go true e false = stay-put 10
-        go false e c = stay-put 9
-
   offer-call : (x bytes : ℕ) → Embodied S (tableCall S t (Offer x bytes)) (channelOfferOf ch x bytes)
   unfolding channelOfferOf channelOfferNumberOf
   offer-call x bytes =
@@ -395,8 +348,8 @@ module _ (S : Start) (G : GoodStart S) (p : Plain) (t : Table) (R : Same S p t) 
 
       go : (b : Bool) → ltb (positionOf x (ch .stations)) (length (ch .stations)) ≡ b
           → Embodied S (tableOffer t bytes (cond b (some (positionOf x (ch .stations))) none))
-          (byNumber (unless b 16 (takingNumberOf (stationOf ch x .condition) bytes)) (refused ch) (takenAt ch (positionOf x (ch .stations)) bytes))
-      go true e = offer-at (positionOf x (ch .stations)) (ltb-true (positionOf x (ch .stations)) (length (ch .stations)) e) bytes
+          (byNumber (unless b 16 (takingNumberOf (stationOf ch x) bytes)) (refused ch) (takenAt ch (positionOf x (ch .stations)) bytes))
+      go true e = offer-at S t ch E (positionOf x (ch .stations)) (ltb-true (positionOf x (ch .stations)) (length (ch .stations)) e) bytes
       go false e = stay-put 16
 
   pub call-embodied : (c : Call) → Embodied S (tableCall S t c) (channelCall ch c)

@@ -4,12 +4,12 @@ use mathlib.Core.Bool.{Bool, true, false, _&&_, cond}
 use mathlib.Core.List.{List, [], _∷_, _++_, map, List·Memᴰ, List·Memᴰ·head, List·Memᴰ·tail, List·Memᴰ·cases-cons, List·Memᴰ·not-nil}
 use mathlib.Core.Logic.{_⊎_, ⊎-elim, by-cases}
 use mathlib.Core.Option.{Option, none, some}
-use Prim.Native.Nat.{ℕ, zero, suc, _+_, _-_, _≤_, _<_}
+use Prim.Native.Nat.{ℕ, zero, suc, _+_, _-_, _/_, _≤_, _<_}
 use native.Mathlib.Omega.{arith}
 use native.Mathlib.Decide.{decLt}
 use lib.Dec.{eqb}
 use lib.ListN.{length, getD, length-append}
-use Rattle.message.specs.Message.{fitsMessage, slotsFor}
+use Rattle.message.specs.Message.{fitsMessage}
 use Rattle.requests.specs.Together.{carries, silent, joined, together}
 use Rattle.requests.proofs.Senders.{joined-comm, joined-assoc, joined-silent}
 use Rattle.rules.specs.declared.Station.{Station}
@@ -17,17 +17,18 @@ use Rattle.listlaws.specs.Lists.{sumOf, countOf, keepIf}
 use Rattle.rules.specs.declared.Turn.{Turn}
 use Rattle.rules.specs.Serving.{waiting}
 use Rattle.rules.specs.declared.Answer.the-variants.{Refused, Went}
-use Rattle.rules.specs.Calls.{Start, index, Call, Offer, Slot, Calendar}
-use Rattle.rules.specs.Messages.{Message, Segment, segment, of}
-use Rattle.rules.specs.Plain.{Plain, PlainResult, Queues, plainOwner, plainSettled, overflows, sent, plainSenders, plainLoneIndex, plainLoneSegment, plainSet, among, onChannel, plainCall, plainSlot, plainOffer, plainAnswers, plainRefuse, plainAccept, waits, stationFrom, inRange, joinAlone, joinMinislot, joinRow, plainSuccess, queuesOf, served, slotSum, plainAfter}
+use Rattle.rules.specs.Calls.{Start, Call, Offer, Slot, Calendar}
+use Rattle.rules.specs.Messages.{Message, Segment, segment, of, recordOf}
+use Rattle.rules.proofs.Records.{holder-of}
+use Rattle.rules.specs.Plain.{Plain, PlainResult, Queues, plainOwner, plainSettled, overflows, sent, plainSenders, plainLoneIndex, plainLoneSegment, plainSet, among, onChannel, plainCall, plainSlot, plainOffer, plainAnswers, plainRefuse, plainAccept, waits, newcomer, stationFrom, inRange, joinAlone, joinMinislot, joinRow, plainSuccess, queuesOf, served, slotSum, plainAfter}
 use Rattle.channel_rules.specs.Demand3.{requestOf, noMessage, isRefusal, takenIn, deliveredIn, SendersAre}
 use Rattle.rules.proofs.Views.{Sender, requestFrom, dataFrom, seen, eqb-self, nil-cons}
-use Rattle.rules.proofs.Shared.{Table, gather, askedSender}
+use Rattle.rules.proofs.Shared.{Table, gather, records, indexOf, askedSender, askedPair}
 use Rattle.rules.proofs.Relation.{lengths, Same, Numbered}
 use Rattle.listlaws.proofs.Totals.{total}
 use Rattle.rules.proofs.SlotStep.{segmentsSent}
 use Rattle.channel_rules.proofs.Mixing.{blend, wire-blend}
-use Rattle.rules.proofs.WireRows.{asRequest, leaves}
+use Rattle.rules.proofs.WireRows.{asRequest, leaves, gather-pairs}
 use Rattle.rules.proofs.Walking.{AreStations}
 
 -- ---- messages by their number
@@ -43,28 +44,37 @@ serial-at (m ∷ l) j n zero h = n .0 ∙ omega arith
 serial-at (m ∷ l) j n (suc i) h = serial-at l (suc j) (n .1) i (omega arith) ∙ omega arith
 
 -- a message taken has a station of the table
-in-of : (m : Message) (l : List Message) → List·Memᴰ m l → of (m .station) l ≡ [] → ⊥
+in-of : (m : Message) (l : List Message) → List·Memᴰ m l → of (recordOf m) l ≡ [] → ⊥
 in-of m [] h e = List·Memᴰ·not-nil h
-in-of m (x ∷ l) h e = ⊎-elim here (λ w. there (eqb (x .station) (m .station)) e (in-of m l w)) (List·Memᴰ·cases-cons h)
+in-of m (x ∷ l) h e = ⊎-elim here (λ w. there (eqb (recordOf x) (recordOf m)) e (in-of m l w)) (List·Memᴰ·cases-cons h)
   where
     here : m ≡ x → ⊥
-    here w = nil-cons (sym (rw (← w, eqb-self (m .station)) at e))
+    here w = nil-cons (sym (rw (← w, eqb-self (recordOf m)) at e))
 
-    there : (b : Bool) → keepIf b x (of (m .station) l) ≡ [] → (of (m .station) l ≡ [] → ⊥) → ⊥
+    there : (b : Bool) → keepIf b x (of (recordOf m) l) ≡ [] → (of (recordOf m) l ≡ [] → ⊥) → ⊥
     there true e ih = nil-cons (sym e)
     there false e ih = ih e
 
 pub station-of : (S : Start) (p : Plain) (t : Table) → Same S p t → (m : Message) → List·Memᴰ m (p .taken) → m .station < length (S .indexes)
-station-of S p t R m h = by-cases (decLt (m .station) (length (S .indexes))) (λ w. w) (λ w. absurd (in-of m (p .taken) h (R .strangers (m .station) (omega arith))))
+station-of S p t R m h =
+    let e : recordOf m / 2 ≡ m .station = holder-of m in
+    let w : recordOf m < records S = by-cases (decLt (recordOf m) (records S)) (λ w. w) (λ w. absurd (in-of m (p .taken) h (R .strangers (recordOf m) (omega arith)))) in
+    omega arith
 
 -- ---- the waiting total, from the records
 
 pub waiting-sum : (S : Start) (t : Table) (j : ℕ) (l : List Station) → AreStations S t j l
-    → sumOf (λ (s : Station). waiting (s .condition)) l + total j (λ k. waiting (t .condition k)) ≡ total (j + length l) (λ k. waiting (t .condition k))
-waiting-sum S t j [] a = omega (arith, ap (λ (n : ℕ). total n (λ k. waiting (t .condition k))) (let e : j ≡ j + 0 = omega arith in e))
+    → sumOf (λ (s : Station). waiting (s .short .condition) + waiting (s .long .condition)) l + total (j + j) (λ k. waiting (t .condition k))
+    ≡ total ((j + length l) + (j + length l)) (λ k. waiting (t .condition k))
+waiting-sum S t j [] a = omega (arith, ap (λ (n : ℕ). total n (λ k. waiting (t .condition k))) (let e : j + j ≡ (j + 0) + (j + 0) = omega arith in e))
 waiting-sum S t j (s ∷ l) a =
-    rw (a .0 .condition)
-    (omega (arith, waiting-sum S t (suc j) l (a .1), ap (λ (n : ℕ). total n (λ k. waiting (t .condition k))) (let e : suc j + length l ≡ j + suc (length l) = omega arith in e)))
+    rw (a .0 .short, a .0 .long)
+    (omega (
+      arith,
+      waiting-sum S t (suc j) l (a .1),
+      ap (λ (n : ℕ). total n (λ k. waiting (t .condition k))) (let e : suc j + suc j ≡ suc (suc (j + j)) = omega arith in e),
+      ap (λ (n : ℕ). total n (λ k. waiting (t .condition k))) (let e : (suc j + length l) + (suc j + length l) ≡ (j + suc (length l)) + (j + suc (length l)) = omega arith in e),
+    ))
 
 -- ---- the long queue, place by place
 
@@ -80,10 +90,10 @@ unfolding together
 leaves-blend ix [] = refl
 leaves-blend ix (x ∷ l) = ap (joined (carries (asRequest ix x))) (leaves-blend ix l)
 
-requests-blend : (S : Start) (l : List Message) → blend silent joined (λ s. carries (asRequest (index S) s)) (map requestFrom l) ≡ together (map carries (map (requestOf S) l))
+requests-blend : (S : Start) (l : List Message) → blend silent joined (λ s. carries (asRequest (indexOf S) s)) (map requestFrom l) ≡ together (map carries (map (requestOf S) l))
 unfolding together
 requests-blend S [] = refl
-requests-blend S (x ∷ l) = ap (joined (carries (requestOf S x))) (requests-blend S l)
+requests-blend S (x ∷ l) = rw (holder-of x) (ap (joined (carries (requestOf S x))) (requests-blend S l))
 
 seen-get : (q : List (List Message)) (i : ℕ) → seen (λ (l : List Message). l) q i ≡ getD q i []
 seen-get [] i = refl
@@ -91,11 +101,12 @@ seen-get (x ∷ q) zero = refl
 seen-get (x ∷ q) (suc i) = seen-get q i
 
 pub wire-shows : (S : Start) (p : Plain) (t : Table) → Same S p t → (g i : ℕ)
-    → leaves (index S) (gather (λ k. askedSender g (suc i) k (t .condition k)) (length (S .indexes))) ≡ together (map carries (map (requestOf S) (getD (p .group g .asking) i [])))
+    → leaves (indexOf S) (gather (askedPair g (t .condition) (suc i)) (length (S .indexes))) ≡ together (map carries (map (requestOf S) (getD (p .group g .asking) i [])))
 wire-shows S p t R g i =
-    leaves-blend (index S) (gather (λ k. askedSender g (suc i) k (t .condition k)) (length (S .indexes)))
-    ∙ wire-blend silent joined joined-silent joined-assoc joined-comm (λ s. carries (asRequest (index S) s)) S p t R g i
-    ∙ ap (λ (l : List Message). blend silent joined (λ s. carries (asRequest (index S) s)) (map requestFrom l)) (seen-get (p .group g .asking) i)
+    ap (leaves (indexOf S)) (gather-pairs (λ k. askedSender g (suc i) k (t .condition k)) (length (S .indexes)))
+    ∙ leaves-blend (indexOf S) (gather (λ k. askedSender g (suc i) k (t .condition k)) (records S))
+    ∙ wire-blend silent joined joined-silent joined-assoc joined-comm (λ s. carries (asRequest (indexOf S) s)) S p t R g i
+    ∙ ap (λ (l : List Message). blend silent joined (λ s. carries (asRequest (indexOf S) s)) (map requestFrom l)) (seen-get (p .group g .asking) i)
     ∙ requests-blend S (getD (p .group g .asking) i [])
 
 -- ---- senders
@@ -145,14 +156,14 @@ module _ (x : ℕ) (e7 : eqb 7 x ≡ false) (e9 : eqb 9 x ≡ false) (e10 : eqb 
   never-call : (S : Start) (p : Plain) (c : Call) → isRefusal x (plainCall S p c .answer) ≡ false
   never-call S p (Offer i bytes) = at (stationFrom 0 (S .indexes) i)
     where
-      go : (k : ℕ) (a b : Bool) → isRefusal x ((cond a (plainRefuse p 9) (cond b (plainAccept p (record { serial = length (p .taken); station = k; slots = slotsFor bytes })) (plainRefuse p 10))) .answer) ≡ false
-      go k true b = e9
-      go k false true = refl
-      go k false false = e10
+      go : (k : ℕ) (a b : Bool) → isRefusal x ((cond a (cond b (plainRefuse p 9) (plainAccept p (newcomer p k bytes))) (plainRefuse p 10)) .answer) ≡ false
+      go k true true = e9
+      go k true false = refl
+      go k false b = e10
 
       at : (o : Option ℕ) → isRefusal x (plainOffer p bytes o .answer) ≡ false
       at none = e16
-      at (some k) = go k (waits p k) (fitsMessage bytes)
+      at (some k) = go k (fitsMessage bytes) (waits p (recordOf (newcomer p k bytes)))
   never-call S p (Slot picks) = go (eqb (length picks) (length (S .indexes))) (inRange (S .m) picks) (overflows (plainSettled p))
     where
       go : (a b c : Bool) → isRefusal x ((cond a (cond b (cond c (plainRefuse p 7) (plainSlot S (λ k. getD picks k 1) p)) (plainRefuse p 11)) (plainRefuse p 17)) .answer) ≡ false
@@ -224,7 +235,7 @@ booked-call S p (Offer i bytes) = at (stationFrom 0 (S .indexes) i)
   where
     at : (o : Option ℕ) → Booked p (plainOffer p bytes o)
     at none = booked-refused p 16
-    at (some k) = booked-if p (waits p k) _ _ (booked-refused p 9) (booked-if p (fitsMessage bytes) _ _ (booked-accept p (record { serial = length (p .taken); station = k; slots = slotsFor bytes })) (booked-refused p 10))
+    at (some k) = booked-if p (fitsMessage bytes) _ _ (booked-if p (waits p (recordOf (newcomer p k bytes))) _ _ (booked-refused p 9) (booked-accept p (newcomer p k bytes))) (booked-refused p 10)
 booked-call S p (Slot picks) =
     booked-if p (eqb (length picks) (length (S .indexes))) _ _
     (booked-if p (inRange (S .m) picks) _ _ (booked-if p (overflows (plainSettled p)) _ _ (booked-refused p 7) (booked-slot S (λ k. getD picks k 1) p)) (booked-refused p 11))

@@ -1,7 +1,7 @@
 -- What stations send, gathered one station after the other: the new row request by request, the data senders counted, and a lone one's index and segment.
 -- Assumes nothing.
 use mathlib.Core.Path.{_≡_, refl, ap, _∙_}
-use mathlib.Core.Bool.{Bool, true, false, cond}
+use mathlib.Core.Bool.{cond}
 use mathlib.Core.List.{List, [], _∷_, _++_, map, append-nil, map-append}
 use Prim.Native.Nat.{ℕ, zero, suc, _+_, _≤_, _<_}
 use native.Mathlib.Omega.{arith}
@@ -16,7 +16,6 @@ use Rattle.rules.specs.declared.StationSlot.{StationSlot}
 use Rattle.rules.specs.declared.SlotAnswer.{SlotAnswer}
 use Rattle.rules.specs.declared.SlotAnswer.the-variants.{Went as WentSlot, Refused as RefusedSlot}
 use Rattle.listlaws.specs.Lists.{onlyIf}
-use Rattle.rules.specs.Requesting.{totalOf}
 use Rattle.channel_rules.specs.ChannelCalls.{slotsOf, requestIn, requestsIn, newRow, DataSent, dataIn, dataSent, loneIndex, loneSegment}
 use Rattle.listlaws.proofs.Joining.{gather-last}
 
@@ -39,7 +38,7 @@ together-last l r = ap together (map-append carries l (r ∷ [])) ∙ together-a
 -- ---- the new row, request by request
 
 abbrev pub requestAs : StationSlot → Request
-requestAs r = record { index = r .station .index; total = totalOf (r .station .condition) }
+requestAs r = record { index = r .station .index; total = r .request }
 
 -- one minislot, by the request of one station more
 one-more : (results : List StationSlot) (r : StationSlot) (j : ℕ) → requestsIn j (results ++ (r ∷ [])) ≡ requestsIn j results ++ requestIn j r (r .answer)

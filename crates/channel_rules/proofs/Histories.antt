@@ -14,7 +14,7 @@ use Rattle.rules.proofs.Shared.{Table}
 use Rattle.rules.proofs.Views.{eqb-self, nil-cons}
 use Rattle.rules.specs.Calls.{Start}
 use Rattle.listlaws.specs.Lists.{keepIf, onlyIf}
-use Rattle.rules.specs.Messages.{deliveredFor, Message, Segment, of, segmentsFrom, segment, deliveredOf}
+use Rattle.rules.specs.Messages.{deliveredFor, Message, Segment, of, segmentsFrom, segment, deliveredOf, recordOf}
 use Rattle.rules.specs.Plain.{Plain}
 use Rattle.rules.specs.Serving.{waiting}
 use Rattle.rules.specs.declared.Condition.{Condition}
@@ -40,7 +40,7 @@ for-other m x e (suc n) s = rw e (for-other m x e n (suc s))
 -- serials before the numbering begins do not occur
 for-none : (k x : ℕ) (l : List Message) (j : ℕ) → Numbered j l → x < j → deliveredFor x (whole (of k l)) ≡ []
 for-none k x [] j n h = refl
-for-none k x (m ∷ l) j n h = go (for-none k x l (suc j) (n .1) (omega arith)) (eqb (m .station) k)
+for-none k x (m ∷ l) j n h = go (for-none k x l (suc j) (n .1) (omega arith)) (eqb (recordOf m) k)
   where
     go : deliveredFor x (whole (of k l)) ≡ [] → (b : Bool) → deliveredFor x (whole (keepIf b m (of k l))) ≡ []
     go ih true = ofBy-append (λ (s : Segment). s .message .serial) x (segmentsFrom m (m .slots) 1) (whole (of k l)) ∙ rw (for-other m x (ne-eqb (m .serial) x (λ e. omega arith)) (m .slots) 1) ih
@@ -53,13 +53,13 @@ for-serial m (y ∷ l) j n h = ⊎-elim (λ e. go e) (λ w. omega (arith, for-se
     go : m ≡ y → j ≤ m .serial
     go e = rw e (omega arith)
 
--- of all segments of station k's messages, those of message m: all of m's, if m is station k's
-for-whole : (k : ℕ) (m : Message) (l : List Message) (j : ℕ) → Numbered j l → List·Memᴰ m l → deliveredFor (m .serial) (whole (of k l)) ≡ onlyIf (eqb (m .station) k) (segmentsFrom m (m .slots) 1)
+-- of all segments of record k's messages, those of message m: all of m's, if m is record k's
+for-whole : (k : ℕ) (m : Message) (l : List Message) (j : ℕ) → Numbered j l → List·Memᴰ m l → deliveredFor (m .serial) (whole (of k l)) ≡ onlyIf (eqb (recordOf m) k) (segmentsFrom m (m .slots) 1)
 for-whole k m [] j n h = absurd (List·Memᴰ·not-nil h)
 for-whole k m (y ∷ l) j n h = ⊎-elim here (λ w. there w (for-whole k m l (suc j) (n .1) w)) (List·Memᴰ·cases-cons h)
   where
-    here : m ≡ y → deliveredFor (m .serial) (whole (of k (y ∷ l))) ≡ onlyIf (eqb (m .station) k) (segmentsFrom m (m .slots) 1)
-    here e = rw e (go (for-none k (y .serial) l (suc j) (n .1) (omega arith)) (eqb (y .station) k))
+    here : m ≡ y → deliveredFor (m .serial) (whole (of k (y ∷ l))) ≡ onlyIf (eqb (recordOf m) k) (segmentsFrom m (m .slots) 1)
+    here e = rw e (go (for-none k (y .serial) l (suc j) (n .1) (omega arith)) (eqb (recordOf y) k))
       where
         go : deliveredFor (y .serial) (whole (of k l)) ≡ [] → (b : Bool) → deliveredFor (y .serial) (whole (keepIf b y (of k l))) ≡ onlyIf b (segmentsFrom y (y .slots) 1)
         go ih true =
@@ -67,19 +67,19 @@ for-whole k m (y ∷ l) j n h = ⊎-elim here (λ w. there w (for-whole k m l (s
             ∙ rw (for-own y (y .serial) (eqb-self (y .serial)) (y .slots) 1, ih) (append-nil (segmentsFrom y (y .slots) 1))
         go ih false = ih
 
-    there : List·Memᴰ m l → deliveredFor (m .serial) (whole (of k l)) ≡ onlyIf (eqb (m .station) k) (segmentsFrom m (m .slots) 1) → deliveredFor (m .serial) (whole (of k (y ∷ l))) ≡ onlyIf (eqb (m .station) k) (segmentsFrom m (m .slots) 1)
-    there w ih = go (eqb (y .station) k)
+    there : List·Memᴰ m l → deliveredFor (m .serial) (whole (of k l)) ≡ onlyIf (eqb (recordOf m) k) (segmentsFrom m (m .slots) 1) → deliveredFor (m .serial) (whole (of k (y ∷ l))) ≡ onlyIf (eqb (recordOf m) k) (segmentsFrom m (m .slots) 1)
+    there w ih = go (eqb (recordOf y) k)
       where
-        go : (b : Bool) → deliveredFor (m .serial) (whole (keepIf b y (of k l))) ≡ onlyIf (eqb (m .station) k) (segmentsFrom m (m .slots) 1)
+        go : (b : Bool) → deliveredFor (m .serial) (whole (keepIf b y (of k l))) ≡ onlyIf (eqb (recordOf m) k) (segmentsFrom m (m .slots) 1)
         go true =
             ofBy-append (λ (s : Segment). s .message .serial) (m .serial) (segmentsFrom y (y .slots) 1) (whole (of k l))
             ∙ rw (for-other y (m .serial) (ne-eqb (y .serial) (m .serial) (λ e. omega (arith, for-serial m l (suc j) (n .1) w))) (y .slots) 1) ih
         go false = ih
 
--- entries of one serial that no other station has are one station's
-one-station : (x k : ℕ) (l : List Segment) → ((i : ℕ) → i ≢ k → deliveredFor x (deliveredOf i l) ≡ []) → deliveredFor x l ≡ deliveredFor x (deliveredOf k l)
-one-station x k [] h = refl
-one-station x k (s ∷ l) h = go (one-station x k l (λ i ne. less-one i (eqb (s .message .station) i) (h i ne))) (eqb (s .message .serial) x) refl (eqb (s .message .station) k) refl
+-- entries of one serial that no other record has are one record's
+one-record : (x k : ℕ) (l : List Segment) → ((i : ℕ) → i ≢ k → deliveredFor x (deliveredOf i l) ≡ []) → deliveredFor x l ≡ deliveredFor x (deliveredOf k l)
+one-record x k [] h = refl
+one-record x k (s ∷ l) h = go (one-record x k l (λ i ne. less-one i (eqb (recordOf (s .message)) i) (h i ne))) (eqb (s .message .serial) x) refl (eqb (recordOf (s .message)) k) refl
   where
     less-two : (i : ℕ) (c : Bool) → keepIf c s (deliveredFor x (deliveredOf i l)) ≡ [] → deliveredFor x (deliveredOf i l) ≡ []
     less-two i true e = absurd (nil-cons (sym e))
@@ -89,17 +89,17 @@ one-station x k (s ∷ l) h = go (one-station x k l (λ i ne. less-one i (eqb (s
     less-one i true e = less-two i (eqb (s .message .serial) x) e
     less-one i false e = e
 
-    go : deliveredFor x l ≡ deliveredFor x (deliveredOf k l) → (a : Bool) → eqb (s .message .serial) x ≡ a → (b : Bool) → eqb (s .message .station) k ≡ b
+    go : deliveredFor x l ≡ deliveredFor x (deliveredOf k l) → (a : Bool) → eqb (s .message .serial) x ≡ a → (b : Bool) → eqb (recordOf (s .message)) k ≡ b
         → keepIf (eqb (s .message .serial) x) s (deliveredFor x l) ≡ deliveredFor x (keepIf b s (deliveredOf k l))
     go ih a e true f = ap (λ (z : List Segment). keepIf (eqb (s .message .serial) x) s z) ih
     go ih false e false f = rw e ih
-    go ih true e false f = absurd (nil-cons (sym (rw (eqb-self (s .message .station), e) at (h (s .message .station) (eqb-false (s .message .station) k f)))))
+    go ih true e false f = absurd (nil-cons (sym (rw (eqb-self (recordOf (s .message)), e) at (h (recordOf (s .message)) (eqb-false (recordOf (s .message)) k f)))))
 
 none-left : (a b : List Segment) → a ++ b ≡ [] → a ≡ []
 none-left [] b e = refl
 none-left (x ∷ a) b e = absurd (nil-cons (sym e))
 
--- what remains of a message in its station is a run of its segments
+-- what remains of a message in its record is a run of its segments
 pub remaining-run : (n : Message) (c : Condition) → (l : ℕ) × (s : ℕ) × (remaining n c ≡ segmentsFrom n l s)
 remaining-run n Free = (0, 1, refl)
 remaining-run n (Fresh t) = (n .slots, 1, refl)
@@ -116,26 +116,26 @@ remaining-other : (n : Message) (x : ℕ) (c : Condition) → eqb (n .serial) x 
 remaining-other n x c e = let (l, s, q) = remaining-run n c in rw q (for-other n x e l s)
 
 module _ (S : Start) (p : Plain) (t : Table) (R : Same S p t) (m : Message) (h : List·Memᴰ m (p .taken)) where
-  part-of : (k : ℕ) → deliveredFor (m .serial) (deliveredOf k (p .history)) ++ deliveredFor (m .serial) (remaining (R .message k) (t .condition k)) ≡ onlyIf (eqb (m .station) k) (segmentsFrom m (m .slots) 1)
+  part-of : (k : ℕ) → deliveredFor (m .serial) (deliveredOf k (p .history)) ++ deliveredFor (m .serial) (remaining (R .message k) (t .condition k)) ≡ onlyIf (eqb (recordOf m) k) (segmentsFrom m (m .slots) 1)
   part-of k =
       sym (ofBy-append (λ (s : Segment). s .message .serial) (m .serial) (deliveredOf k (p .history)) (remaining (R .message k) (t .condition k)))
       ∙ ap (deliveredFor (m .serial)) (R .agrees k .owed)
       ∙ for-whole k m (p .taken) 0 (R .numbered) h
 
-  -- the message's deliveries, then what waits of it in its station, are its segments
-  pub own-part : (k : ℕ) → m .station ≡ k
+  -- the message's deliveries, then what waits of it in its record, are its segments
+  pub own-part : (k : ℕ) → recordOf m ≡ k
       → deliveredFor (m .serial) (p .history) ++ deliveredFor (m .serial) (remaining (R .message k) (t .condition k)) ≡ segmentsFrom m (m .slots) 1
   own-part k e =
-      rw (one-station (m .serial) k (p .history) (λ i ne. none-left _ _ (part-of i ∙ rw (ne-eqb (m .station) i (λ w. ne (sym w ∙ e))))))
-      (part-of k ∙ rw (eq-eqb (m .station) k e))
+      rw (one-record (m .serial) k (p .history) (λ i ne. none-left _ _ (part-of i ∙ rw (ne-eqb (recordOf m) i (λ w. ne (sym w ∙ e))))))
+      (part-of k ∙ rw (eq-eqb (recordOf m) k e))
 
-  pub own-slots : (k : ℕ) → m .station ≡ k
+  pub own-slots : (k : ℕ) → recordOf m ≡ k
       → length (deliveredFor (m .serial) (p .history)) + length (deliveredFor (m .serial) (remaining (R .message k) (t .condition k))) ≡ m .slots
   own-slots k e =
       sym (length-append (deliveredFor (m .serial) (p .history)) (deliveredFor (m .serial) (remaining (R .message k) (t .condition k))))
       ∙ ap length (own-part k e) ∙ length-segments m (m .slots) 1
 
-  -- what waits in the station is of one message
+  -- what waits in the record is of one message
   waiting-for : (x k : ℕ) → (deliveredFor x (remaining (R .message k) (t .condition k)) ≡ []) ⊎ (length (deliveredFor x (remaining (R .message k) (t .condition k))) ≡ waiting (t .condition k))
   waiting-for x k = go (eqb (R .message k .serial) x) refl
     where
@@ -144,12 +144,12 @@ module _ (S : Start) (p : Plain) (t : Table) (R : Same S p t) (m : Message) (h :
       go true e = inr (ap length (remaining-own (R .message k) x (t .condition k) e) ∙ length-rem S (R .message k) (t .condition k) (R .agrees k .fits))
       go false e = inl (remaining-other (R .message k) x (t .condition k) e)
 
-  -- the message's deliveries are its first segments, in order, and the rest wait in its station
-  pub history-of : (d : ℕ) × (d ≤ m .slots) × (deliveredFor (m .serial) (p .history) ≡ segmentsFrom m d 1) × (d < m .slots → waiting (t .condition (m .station)) ≡ m .slots - d)
+  -- the message's deliveries are its first segments, in order, and the rest wait in its record
+  pub history-of : (d : ℕ) × (d ≤ m .slots) × (deliveredFor (m .serial) (p .history) ≡ segmentsFrom m d 1) × (d < m .slots → waiting (t .condition (recordOf m)) ≡ m .slots - d)
   history-of =
-      let v = own-slots (m .station) refl in (
+      let v = own-slots (recordOf m) refl in (
         length (deliveredFor (m .serial) (p .history)),
         omega arith,
-        prefix m (m .slots) 1 (deliveredFor (m .serial) (p .history)) _ (own-part (m .station) refl),
-        λ l. ⊎-elim (λ q. absurd (omega (arith, ap length q))) (λ q. omega arith) (waiting-for (m .serial) (m .station)),
+        prefix m (m .slots) 1 (deliveredFor (m .serial) (p .history)) _ (own-part (recordOf m) refl),
+        λ l. ⊎-elim (λ q. absurd (omega (arith, ap length q))) (λ q. omega arith) (waiting-for (m .serial) (recordOf m)),
       )

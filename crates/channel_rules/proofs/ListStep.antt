@@ -15,11 +15,11 @@ use Rattle.rules.proofs.CallStep.{call-same, ledger, length-whole}
 use Rattle.channel_rules.proofs.Searching.{condition-eq}
 use Rattle.rules.proofs.Clauses.{read}
 use Rattle.rules.proofs.Relation.{Agrees, Same, Fits, whole}
-use Rattle.rules.proofs.Shared.{Table, tableCall, askedRow, tableAfter, tableAnswers}
+use Rattle.rules.proofs.Shared.{Table, records, indexOf, tableCall, askedRow, tableAfter, tableAnswers}
 use Rattle.rules.proofs.Views.{senderAt, dataFrom, seen, run}
-use Rattle.rules.specs.Calls.{Start, index, Call}
+use Rattle.rules.specs.Calls.{Start, Call}
 use Rattle.listlaws.specs.Lists.{keepIf, onlyIf}
-use Rattle.rules.specs.Messages.{Message, Segment, of, segmentsFrom, segment, deliveredOf}
+use Rattle.rules.specs.Messages.{Message, Segment, of, segmentsFrom, segment, deliveredOf, recordOf}
 use Rattle.rules.specs.Plain.{Plain, plainCall, slotSum, plainAfter, plainAnswers}
 use Rattle.rules.specs.Positions.{part, conditionOf}
 use Rattle.rules.specs.Serving.{waiting}
@@ -45,7 +45,7 @@ pub record Shown (S : Start) (p : Plain) (t : Table) : Type 0 where
   pub next : t .next ≡ p .next
   pub condition : (k : ℕ) → t .condition k ≡ conditionOf S p k
   pub stretch : (k f l s : ℕ) → t .condition k ≡ Long f l s → (i : ℕ) → i < l → seen (λ (x : Segment). dataFrom x ∷ []) (p .long) (f - 1 + i) ≡ senderAt k (s - l + 1 + i) ∷ []
-  pub wire : (g : ℕ) → askedRow (index S) (length (S .indexes)) (t .condition) g (S .m) 1 ≡ map (read (index S)) (p .group g .asking)
+  pub wire : (g : ℕ) → askedRow (indexOf S) (records S) (t .condition) g (S .m) 1 ≡ map (read (indexOf S)) (p .group g .asking)
 
 -- a stretch's segments, one by one
 run-at : (m : Message) (l s i : ℕ) → i < l → run m l s i ≡ segment m (s + i) ∷ []
@@ -55,10 +55,10 @@ run-at m (suc l) s (suc i) h = run-at m l (suc s) i (omega arith) ∙ ap (λ (x 
 
 part-entry : (k : ℕ) (q : List Segment) (i : ℕ) (x : Segment) → seen (part k) q i ≡ x ∷ [] → seen (λ (y : Segment). dataFrom y ∷ []) q i ≡ senderAt k (x .number) ∷ []
 part-entry k [] i x e = cc
-part-entry k (y ∷ q) zero x e = go (eqb (y .message .station) k) refl e
+part-entry k (y ∷ q) zero x e = go (eqb (recordOf (y .message)) k) refl e
   where
-    go : (b : Bool) → eqb (y .message .station) k ≡ b → onlyIf b (y ∷ []) ≡ x ∷ [] → dataFrom y ∷ [] ≡ senderAt k (x .number) ∷ []
-    go true w e = let z : y ≡ x = cc in rw (eqb-true (y .message .station) k w, z)
+    go : (b : Bool) → eqb (recordOf (y .message)) k ≡ b → onlyIf b (y ∷ []) ≡ x ∷ [] → dataFrom y ∷ [] ≡ senderAt k (x .number) ∷ []
+    go true w e = let z : y ≡ x = cc in rw (eqb-true (recordOf (y .message)) k w, z)
     go false w e = cc
 part-entry k (y ∷ q) (suc i) x e = part-entry k q i x e
 
@@ -83,33 +83,33 @@ shown S p t R =
       wire = λ g. rw (← (R .rows g)) (row-eq S p (t .condition) (R .message) (R .outside) (R .agrees) g);
     }
 
--- THE LEDGER: the slots of all messages taken are those delivered and those that wait in the stations
-own-from : (k : ℕ) (m : Message) → eqb (m .station) k ≡ true → (n s : ℕ) → deliveredOf k (segmentsFrom m n s) ≡ segmentsFrom m n s
+-- THE LEDGER: the slots of all messages taken are those delivered and those that wait in the records
+own-from : (k : ℕ) (m : Message) → eqb (recordOf m) k ≡ true → (n s : ℕ) → deliveredOf k (segmentsFrom m n s) ≡ segmentsFrom m n s
 own-from k m e zero s = refl
 own-from k m e (suc n) s = rw e (ap (λ (l : List Segment). segment m s ∷ l) (own-from k m e n (suc s)))
 
-other-from : (k : ℕ) (m : Message) → eqb (m .station) k ≡ false → (n s : ℕ) → deliveredOf k (segmentsFrom m n s) ≡ []
+other-from : (k : ℕ) (m : Message) → eqb (recordOf m) k ≡ false → (n s : ℕ) → deliveredOf k (segmentsFrom m n s) ≡ []
 other-from k m e zero s = refl
 other-from k m e (suc n) s = rw e (other-from k m e n (suc s))
 
 of-whole : (k : ℕ) (l : List Message) → deliveredOf k (whole l) ≡ whole (of k l)
 of-whole k [] = refl
-of-whole k (m ∷ l) = ofBy-append (λ (s : Segment). s .message .station) k (segmentsFrom m (m .slots) 1) (whole l) ∙ go (of-whole k l) (eqb (m .station) k) refl
+of-whole k (m ∷ l) = ofBy-append (λ (s : Segment). recordOf (s .message)) k (segmentsFrom m (m .slots) 1) (whole l) ∙ go (of-whole k l) (eqb (recordOf m) k) refl
   where
-    go : deliveredOf k (whole l) ≡ whole (of k l) → (b : Bool) → eqb (m .station) k ≡ b → deliveredOf k (segmentsFrom m (m .slots) 1) ++ deliveredOf k (whole l) ≡ whole (keepIf b m (of k l))
+    go : deliveredOf k (whole l) ≡ whole (of k l) → (b : Bool) → eqb (recordOf m) k ≡ b → deliveredOf k (segmentsFrom m (m .slots) 1) ++ deliveredOf k (whole l) ≡ whole (keepIf b m (of k l))
     go ih true e = rw (own-from k m e (m .slots) 1, ih)
     go ih false e = rw (other-from k m e (m .slots) 1) ih
 
-pub ledger-all : (S : Start) (p : Plain) (t : Table) → Same S p t → slotSum (p .taken) ≡ length (p .history) + total (length (S .indexes)) (λ k. waiting (t .condition k))
+pub ledger-all : (S : Start) (p : Plain) (t : Table) → Same S p t → slotSum (p .taken) ≡ length (p .history) + total (records S) (λ k. waiting (t .condition k))
 ledger-all S p t R =
     sym (length-whole (p .taken))
-    ∙ length-total (λ (s : Segment). s .message .station) K (whole (p .taken)) (λ k l. of-whole k (p .taken) ∙ rw (R .strangers k l))
+    ∙ length-total (λ (s : Segment). recordOf (s .message)) K (whole (p .taken)) (λ k l. of-whole k (p .taken) ∙ rw (R .strangers k l))
     ∙ total-cong K _ _ (λ k. ap length (of-whole k (p .taken)) ∙ length-whole (of k (p .taken)) ∙ ledger S p k (R .message k) (t .condition k) (R .agrees k))
     ∙ total-add K (λ k. length (deliveredOf k (p .history))) (λ k. waiting (t .condition k))
-    ∙ ap (λ (n : ℕ). n + total K (λ k. waiting (t .condition k))) (sym (length-total (λ (s : Segment). s .message .station) K (p .history) quiet))
+    ∙ ap (λ (n : ℕ). n + total K (λ k. waiting (t .condition k))) (sym (length-total (λ (s : Segment). recordOf (s .message)) K (p .history) quiet))
   where
     K : ℕ
-    K = length (S .indexes)
+    K = records S
 
-    quiet : (k : ℕ) → length (S .indexes) ≤ k → deliveredOf k (p .history) ≡ []
+    quiet : (k : ℕ) → records S ≤ k → deliveredOf k (p .history) ≡ []
     quiet k l = sym (append-nil (deliveredOf k (p .history))) ∙ (rw (R .outside k l, R .strangers k l) at (R .agrees k .owed))

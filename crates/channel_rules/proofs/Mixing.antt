@@ -7,11 +7,10 @@ use mathlib.Core.Logic.{_≢_, by-cases}
 use Prim.Native.Nat.{ℕ, zero, suc, _-_, _≤_, _<_}
 use native.Mathlib.Omega.{arith}
 use native.Mathlib.Decide.{decLt}
-use lib.ListN.{length}
 use Rattle.rules.proofs.Census.{gather-of, ofBy-ofBy}
 use Rattle.rules.proofs.AskedRows.{calls, ofBy-map}
 use Rattle.rules.proofs.Relation.{Same}
-use Rattle.rules.proofs.Shared.{Table, gather, askedSender}
+use Rattle.rules.proofs.Shared.{Table, gather, records, askedSender}
 use Rattle.rules.proofs.Views.{Sender, requestFrom, eqb-self, seen}
 use Rattle.rules.specs.Calls.{Start}
 use Rattle.listlaws.specs.Lists.{keepIf, onlyIf}
@@ -93,7 +92,7 @@ module _ {ℓ} {I : Type ℓ} (blank : I) (mix : I → I → I) where
 
     -- each wire minislot is the blend of the messages asking there
     pub wire-blend : (S : Start) (p : Plain) (t : Table) → Same S p t → (g i : ℕ)
-        → blend carry (gather (λ k. askedSender g (suc i) k (t .condition k)) (length (S .indexes))) ≡ blend carry (map requestFrom (seen (λ (l : List Message). l) (p .group g .asking) i))
+        → blend carry (gather (λ k. askedSender g (suc i) k (t .condition k)) (records S)) ≡ blend carry (map requestFrom (seen (λ (l : List Message). l) (p .group g .asking) i))
     wire-blend S p t R g i =
-        blend-eq (length (S .indexes)) (map requestFrom (seen (λ (l : List Message). l) (p .group g .asking) i)) (λ k. askedSender g (suc i) k (t .condition k)) (λ k w. rw (R .outside k w))
+        blend-eq (records S) (map requestFrom (seen (λ (l : List Message). l) (p .group g .asking) i)) (λ k. askedSender g (suc i) k (t .condition k)) (λ k w. rw (R .outside k w))
         (λ k. place-of k (p .group g .asking) i ∙ ap (map requestFrom) (R .agrees k .asking g i) ∙ calls S p g k (R .message k) (t .condition k) (R .agrees k) i)

@@ -1,4 +1,4 @@
--- The wire: after a slot the stations asked in a minislot are those that requested there (this group) or were asked there before (other groups).
+-- The wire: after a slot the records asked in a minislot are those that requested there (this group) or were asked there before (other groups).
 -- Assumes nothing.
 use mathlib.Core.Path.{_≡_, refl, sym, _∙_}
 use mathlib.Core.Bool.{Bool, true, false, cond}
@@ -47,37 +47,38 @@ module _ (b : Bool) (g : ℕ) (row : List Feedback) (n : Places) (j k : ℕ) whe
   asked-far o ne (Long f l t) = refl
 
 -- step 3 puts exactly the requests on the group's wire
-asked-asks : (r g pick j k : ℕ) (c : Condition) → askedSender g j k c ≡ [] → askedSender g j k (asks r g pick c) ≡ requestSender r g pick j k c
-asked-asks zero g pick j k Free e = refl
-asked-asks zero g pick j k (Fresh t) e = rw (eqb-self g)
-asked-asks zero g pick j k (Asked h i t) e = e
-asked-asks zero g pick j k (Resolving h i t) e = refl
-asked-asks zero g pick j k (Urgent i) e = refl
-asked-asks zero g pick j k (Long f l t) e = refl
-asked-asks (suc r) g pick j k Free e = refl
-asked-asks (suc r) g pick j k (Fresh t) e = refl
-asked-asks (suc r) g pick j k (Asked h i t) e = e
-asked-asks (suc r) g pick j k (Resolving h i t) e = go (eqb h g) i
+asked-asks : (x : Bool) (r g pick j k : ℕ) (c : Condition) → askedSender g j k c ≡ [] → askedSender g j k (asks x r g pick c) ≡ requestSender x r g pick j k c
+asked-asks x zero g pick j k Free e = refl
+asked-asks true zero g pick j k (Fresh t) e = refl
+asked-asks false zero g pick j k (Fresh t) e = rw (eqb-self g)
+asked-asks x zero g pick j k (Asked h i t) e = e
+asked-asks x zero g pick j k (Resolving h i t) e = refl
+asked-asks x zero g pick j k (Urgent i) e = refl
+asked-asks x zero g pick j k (Long f l t) e = refl
+asked-asks x (suc r) g pick j k Free e = refl
+asked-asks x (suc r) g pick j k (Fresh t) e = refl
+asked-asks x (suc r) g pick j k (Asked h i t) e = e
+asked-asks x (suc r) g pick j k (Resolving h i t) e = go (eqb h g) i
   where
     go : (b : Bool) (i : ℕ) → askedSender g j k (front b g pick h i t) ≡ onlyIf b (onlyIf (eqb i 1) (onlyIf (eqb pick j) (senderAt k t ∷ [])))
     go false i = refl
     go true zero = refl
     go true (suc zero) = rw (eqb-self g)
     go true (suc (suc i)) = rw (ne-eqb (suc (suc i)) 1 (λ e. omega arith))
-asked-asks (suc r) g pick j k (Urgent i) e = refl
-asked-asks (suc r) g pick j k (Long f l t) e = refl
+asked-asks x (suc r) g pick j k (Urgent i) e = refl
+asked-asks x (suc r) g pick j k (Long f l t) e = refl
 
--- THE WIRE, station by station
-module _ (b : Bool) (g : ℕ) (row : List Feedback) (n : Places) (h l r pick j k : ℕ) (c : Condition) where
-  pub wire-here : askedSender g j k (falls h l (asks r g pick (settle b g row n c))) ≡ requestSender r g pick j k (settle b g row n c)
+-- THE WIRE, record by record
+module _ (b : Bool) (g : ℕ) (row : List Feedback) (n : Places) (x : Bool) (h l r pick j k : ℕ) (c : Condition) where
+  pub wire-here : askedSender g j k (falls h l (asks x r g pick (settle b g row n c))) ≡ requestSender x r g pick j k (settle b g row n c)
   wire-here =
-      falls-view (askedSender g j k) (λ i. refl) (λ f x t. refl) h l (asks r g pick (settle b g row n c))
-      ∙ asked-asks r g pick j k (settle b g row n c) (asked-settled b g row n j k c)
+      falls-view (askedSender g j k) (λ i. refl) (λ f x t. refl) h l (asks x r g pick (settle b g row n c))
+      ∙ asked-asks x r g pick j k (settle b g row n c) (asked-settled b g row n j k c)
 
-  pub wire-far : (o : ℕ) → eqb o g ≡ false → askedSender o j k (falls h l (asks r g pick (settle b g row n c))) ≡ askedSender o j k c
+  pub wire-far : (o : ℕ) → eqb o g ≡ false → askedSender o j k (falls h l (asks x r g pick (settle b g row n c))) ≡ askedSender o j k c
   wire-far o ne =
-      falls-view (askedSender o j k) (λ i. refl) (λ f x t. refl) h l (asks r g pick (settle b g row n c))
-      ∙ asks-view g pick (askedSender o j k) (λ t. rw far) (λ x t e. rw far) (λ y x t e. refl) r (settle b g row n c)
+      falls-view (askedSender o j k) (λ i. refl) (λ f x t. refl) h l (asks x r g pick (settle b g row n c))
+      ∙ asks-view g pick (askedSender o j k) (λ t. rw far) (λ y t e. rw far) (λ y z t e. refl) x r (settle b g row n c)
       ∙ asked-far b g row n j k o ne c
     where
       far : eqb g o ≡ false

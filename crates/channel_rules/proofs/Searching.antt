@@ -11,7 +11,7 @@ use Rattle.rules.proofs.Relation.{Agrees, Fits}
 use Rattle.rules.proofs.Views.{seen, atFirst, shifted, run, nil-cons}
 use Rattle.rules.specs.Calls.{Start}
 use Rattle.listlaws.specs.Lists.{keepIf, onlyIf}
-use Rattle.rules.specs.Messages.{Message, Segment, of, segment, deliveredOf}
+use Rattle.rules.specs.Messages.{Message, Segment, of, segment, deliveredOf, recordOf}
 use Rattle.rules.specs.Plain.{Plain}
 use Rattle.rules.specs.Positions.{one, part, find, inGroups, conditionOf}
 use Rattle.rules.specs.declared.Condition.{Condition}
@@ -38,17 +38,17 @@ module _ {ℓ κ} {A : Type ℓ} {E : Type κ} (f : A → List E) where
 count-run : (k : ℕ) (m : Message) (q : List Segment) (n l s : ℕ) → ((i : ℕ) → seen (part k) q i ≡ shifted n (run m l s) i) → length (deliveredOf k q) ≡ l
 count-run k m [] n zero s h = refl
 count-run k m [] n (suc l) s h = absurd (nil-cons (h n ∙ shifted-first n (run m (suc l) s)))
-count-run k m (x ∷ q) zero zero s h = go (eqb (x .message .station) k) (h zero) (count-run k m q zero zero s (λ i. h (suc i)))
+count-run k m (x ∷ q) zero zero s h = go (eqb (recordOf (x .message)) k) (h zero) (count-run k m q zero zero s (λ i. h (suc i)))
   where
     go : (b : Bool) → onlyIf b (x ∷ []) ≡ [] → length (deliveredOf k q) ≡ 0 → length (keepIf b x (deliveredOf k q)) ≡ 0
     go true e ih = absurd (nil-cons (sym e))
     go false e ih = ih
-count-run k m (x ∷ q) zero (suc l) s h = go (eqb (x .message .station) k) (h zero) (count-run k m q zero l (suc s) (λ i. h (suc i)))
+count-run k m (x ∷ q) zero (suc l) s h = go (eqb (recordOf (x .message)) k) (h zero) (count-run k m q zero l (suc s) (λ i. h (suc i)))
   where
     go : (b : Bool) → onlyIf b (x ∷ []) ≡ segment m s ∷ [] → length (deliveredOf k q) ≡ l → length (keepIf b x (deliveredOf k q)) ≡ suc l
     go true e ih = ap suc ih
     go false e ih = absurd (nil-cons e)
-count-run k m (x ∷ q) (suc n) l s h = go (eqb (x .message .station) k) (h zero) (count-run k m q n l s (λ i. h (suc i)))
+count-run k m (x ∷ q) (suc n) l s h = go (eqb (recordOf (x .message)) k) (h zero) (count-run k m q n l s (λ i. h (suc i)))
   where
     go : (b : Bool) → onlyIf b (x ∷ []) ≡ [] → length (deliveredOf k q) ≡ l → length (keepIf b x (deliveredOf k q)) ≡ l
     go true e ih = absurd (nil-cons (sym e))

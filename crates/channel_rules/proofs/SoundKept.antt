@@ -1,7 +1,7 @@
 -- The table that the plain channel shows is sound, so 18 never comes. Assumes nothing.
 use mathlib.Core.Path.{_≡_, refl, sym, ap, subst, _∙_}
 use mathlib.Core.Bool.{Bool, true, false, cond, _&&_}
-use mathlib.Core.List.{List, [], _∷_, map, map-append}
+use mathlib.Core.List.{List, [], _∷_, _++_, map, map-append, append-assoc}
 use mathlib.Core.Option.{some}
 use Prim.Native.Nat.{ℕ, zero, suc, _+_, _-_, _%_, _≤_, _<_}
 use native.Mathlib.Omega.{arith}
@@ -18,33 +18,43 @@ use Rattle.rules.specs.Calendars.{freeEntry, ownerIn, calendarWithin, entriesWi
 use Rattle.rules.specs.Limits.{resolutionWithin, openedWithin, groupsWithin, withinLimits, between}
 use Rattle.rules.specs.declared.Condition.{Condition}
 use Rattle.rules.specs.declared.Condition.the-variants.{Free, Fresh, Asked, Resolving, Urgent, Long}
-use Rattle.rules.specs.StationLimits.{conditionWithin, stationWithin}
+use Rattle.rules.specs.StationLimits.{conditionWithin, messagesWithin, stationWithin}
+use Rattle.rules.specs.Messages.{shortRecord, longRecord}
 use Rattle.channel_rules.specs.Soundness.{messagesOf, askedRequest, askedRequests, askedMinislot, soundTable}
 use Rattle.channel_rules.specs.ChannelCalls.{Channel}
-use Rattle.channel_rules.specs.SoundMeaning.{atUrgent, coversLong, atResolving, stationAt, howMany, HasStation, Sound}
+use Rattle.channel_rules.specs.SoundMeaning.{atUrgent, coversLong, atResolving, stationAt, howMany, howManyStations, HasStation, Sound}
 use Rattle.rules.specs.Calls.{Start, index}
 use Rattle.rules.specs.Plain.{Plain}
 use Rattle.rules.proofs.Views.{Sender, senderAt, eqb-sym}
 use Rattle.listlaws.proofs.Table.{from-holds}
-use Rattle.rules.proofs.Shared.{Table, collect, gather, askedSender}
+use Rattle.rules.proofs.Records.{holder-short, holder-long}
+use Rattle.rules.proofs.RecordKinds.{fits-short, fits-long}
+use Rattle.rules.proofs.Shared.{Table, collect, gather, pairOf, records, indexOf, askedSender, askedPair}
 use Rattle.rules.proofs.Relation.{Same}
 use Rattle.channel_rules.proofs.Sounding.{TableSound, InsideTable, urgentHere, longHere, resolvingHere, sound}
-use Rattle.rules.proofs.WireRows.{asRequest, leaves, length-row, row-at}
+use Rattle.rules.proofs.WireRows.{asRequest, leaves, length-row, row-at, gather-pairs}
 use Rattle.rules.proofs.Walking.{IsStation, AreStations}
 use Rattle.channel_rules.proofs.EmbodySlot.{map-if}
 use Rattle.channel_rules.proofs.Embody.{Embodies, GoodStart, station-at, same-length}
-use Rattle.channel_rules.proofs.SoundLists.{counters-cong}
-use Rattle.channel_rules.proofs.SoundMeans.{says-sound}
+use Rattle.channel_rules.proofs.SoundLists.{counters-cong, stations-messages}
+use Rattle.channel_rules.proofs.SoundMeans.{all-within, says-sound}
 use Rattle.channel_rules.proofs.OwnersMean.{on-table}
 use Rattle.channel_rules.proofs.Calendared.{on-among, free-same, entries-within, owner-among}
 
--- ---- counting stations is counting positions
+-- ---- counting messages is counting records
 
 module _ (S : Start) (t : Table) (test : Condition → Bool) (f : ℕ → Condition → List Sender) (same : (k : ℕ) (c : Condition) → cond (test c) 1 0 ≡ length (f k c)) where
-  count-are : (j : ℕ) (l : List Station) → AreStations S t j l → howMany test l ≡ length (collect (λ k. f k (t .condition k)) (length l) j)
+  count-are : (j : ℕ) (l : List Station) → AreStations S t j l → howMany test l ≡ length (collect (pairOf (λ k. f k (t .condition k))) (length l) j)
   count-are j [] a = refl
   count-are j (s ∷ l) a =
-      rw (a .0 .condition, same j (t .condition j), count-are (suc j) l (a .1)) (sym (length-append (f j (t .condition j)) (collect (λ k. f k (t .condition k)) (length l) (suc j))))
+      rw (a .0 .short, a .0 .long, same (shortRecord j) (t .condition (shortRecord j)), same (longRecord j) (t .condition (longRecord j)), count-are (suc j) l (a .1))
+      (sym
+      (length-append (pairOf (λ k. f k (t .condition k)) j) (collect (pairOf (λ k. f k (t .condition k))) (length l) (suc j))
+      ∙ omega (arith, length-append (f (shortRecord j) (t .condition (shortRecord j))) (f (longRecord j) (t .condition (longRecord j))))))
+
+  -- of all of them, as many as the records' walk finds
+  pub count-all : (l : List Station) → AreStations S t 0 l → length l ≡ length (S .indexes) → howMany test l ≡ length (gather (λ k. f k (t .condition k)) (records S))
+  count-all l a e = count-are 0 l a ∙ ap (λ (n : ℕ). length (gather (pairOf (λ k. f k (t .condition k))) n)) e ∙ ap length (gather-pairs (λ k. f k (t .condition k)) (length (S .indexes)))
 
 if-length {ℓ} : {A : Type ℓ} (b : Bool) (x : A) → cond b 1 0 ≡ length (onlyIf b (x ∷ []))
 if-length true x = refl
@@ -78,7 +88,7 @@ resolving-same g i k (Resolving h j t) = rw (eqb-sym i j) (go (eqb h g) (eqb j i
 resolving-same g i k (Urgent j) = refl
 resolving-same g i k (Long f l t) = refl
 
--- ---- the requests of the stations asked in a minislot
+-- ---- the requests of the records asked in a minislot
 
 asked-request : (ix : ℕ → ℕ) (g j k : ℕ) (c : Condition) → askedRequest g j (ix k) c ≡ map (asRequest ix) (askedSender g j k c)
 asked-request ix g j k Free = refl
@@ -93,11 +103,25 @@ asked-request ix g j k (Urgent i) = refl
 asked-request ix g j k (Long f l t) = refl
 
 pub asked-are : (S : Start) (t : Table) (g j i : ℕ) (l : List Station) → AreStations S t i l
-    → askedRequests g j (messagesOf l) ≡ map (asRequest (index S)) (collect (λ k. askedSender g j k (t .condition k)) (length l) i)
+    → askedRequests g j (messagesOf l) ≡ map (asRequest (indexOf S)) (collect (askedPair g (t .condition) j) (length l) i)
 asked-are S t g j i [] a = refl
 asked-are S t g j i (s ∷ l) a =
-    rw (a .0 .index, a .0 .condition, asked-request (index S) g j i (t .condition i), asked-are S t g j (suc i) l (a .1))
-    (sym (map-append (asRequest (index S)) (askedSender g j i (t .condition i)) _))
+    rw (a .0 .index, a .0 .short, a .0 .long, short, long, asked-are S t g j (suc i) l (a .1))
+    (sym
+    (map-append (asRequest (indexOf S)) (askedPair g (t .condition) j i) (collect (askedPair g (t .condition) j) (length l) (suc i))
+    ∙ ap (λ (z : List Request). z ++ map (asRequest (indexOf S)) (collect (askedPair g (t .condition) j) (length l) (suc i)))
+    (map-append (asRequest (indexOf S)) (askedSender g j (shortRecord i) (t .condition (shortRecord i))) (askedSender g j (longRecord i) (t .condition (longRecord i))))
+    ∙ append-assoc (map (asRequest (indexOf S)) (askedSender g j (shortRecord i) (t .condition (shortRecord i)))) _ _))
+  where
+    short : askedRequest g j (index S i) (t .condition (shortRecord i)) ≡ map (asRequest (indexOf S)) (askedSender g j (shortRecord i) (t .condition (shortRecord i)))
+    short =
+        subst (λ (z : ℕ). askedRequest g j (index S z) (t .condition (shortRecord i)) ≡ map (asRequest (indexOf S)) (askedSender g j (shortRecord i) (t .condition (shortRecord i)))) (holder-short i)
+        (asked-request (indexOf S) g j (shortRecord i) (t .condition (shortRecord i)))
+
+    long : askedRequest g j (index S i) (t .condition (longRecord i)) ≡ map (asRequest (indexOf S)) (askedSender g j (longRecord i) (t .condition (longRecord i)))
+    long =
+        subst (λ (z : ℕ). askedRequest g j (index S z) (t .condition (longRecord i)) ≡ map (asRequest (indexOf S)) (askedSender g j (longRecord i) (t .condition (longRecord i)))) (holder-long i)
+        (asked-request (indexOf S) g j (longRecord i) (t .condition (longRecord i)))
 
 -- ---- one record within its limits
 
@@ -164,7 +188,7 @@ module _ (S : Start) (G : GoodStart S) (p : Plain) (t : Table) (R : Same S p t) 
           a .groups,
           a .next,
           a .urgent,
-          a .long,
+          a .long-queue,
           between-true 2 (S .m) 8 (G .m-low) (G .m-high),
           between-true 1 (S .n) 8 (G .n-low) (G .n-high),
           between-true 1 (t .next) (S .n) (table .low) (table .high),
@@ -182,13 +206,23 @@ module _ (S : Start) (G : GoodStart S) (p : Plain) (t : Table) (R : Same S p t) 
         rw (a .groups, a .resolution g (w .0) (omega (arith, w .1, G .n-high)), between-true 1 g (S .n) (w .0) (w .1), between-true 1 i (t .rq g) (w .2) (w .3)) (between-true 1 x 255 (w .4) (w .5))
     condition-within (Urgent i) w = rw (a .urgent) (between-true 1 i (t .h) (w .0) (w .1))
     condition-within (Long f l x) w =
-        rw (a .long, between-true 2 x 255 (w .4) (w .5), between-true 1 l x (w .2) (w .3), le-leb 1 f (w .0)) (le-leb (f + l) (t .n + 1) (w .1))
+        rw (a .long-queue, between-true 2 x 255 (w .4) (w .5), between-true 1 l x (w .2) (w .3), le-leb 1 f (w .0)) (le-leb (f + l) (t .n + 1) (w .1))
 
     pub record-within : k < length (S .indexes) → stationWithin s ≡ true
-    unfolding stationWithin
+    unfolding stationWithin messagesWithin
     record-within h =
-        rw (limits-within, a .index, a .condition, le-leb (index S k) 923 (let w : index S k < 924 = G .indexes .below k h in omega arith))
-        (condition-within (t .condition k) (table .inside k))
+        rw (
+          limits-within,
+          a .index,
+          a .short,
+          a .long,
+          le-leb (index S k) 923 (let w : index S k < 924 = G .indexes .below k h in omega arith),
+          condition-within (t .condition (shortRecord k)) (table .inside (shortRecord k)),
+          condition-within (t .condition (longRecord k)) (table .inside (longRecord k)),
+          fits-short S (R .message (shortRecord k)) k (t .condition (shortRecord k)) (R .agrees (shortRecord k) .mine) (R .agrees (shortRecord k) .fits),
+          fits-long S (R .message (longRecord k)) k (t .condition (longRecord k)) (R .agrees (longRecord k) .mine) (R .agrees (longRecord k) .some) (R .agrees (longRecord k) .fits),
+        )
+        (R .apart k)
 
   -- two stations have equal counters
   pub counters-same : (i k : ℕ) (x y : Station) → IsStation S t i x → IsStation S t k y → x .counters ≡ y .counters
@@ -196,7 +230,7 @@ module _ (S : Start) (G : GoodStart S) (p : Plain) (t : Table) (R : Same S p t) 
       counters-cong (x .counters .minislots) (y .counters .minislots) (x .counters .groups) (y .counters .groups) (x .counters .next) (y .counters .next) (x .counters .urgent) (y .counters .urgent)
       (x .counters .long) (y .counters .long) (x .counters .resolution) (y .counters .resolution) (x .counters .opened) (y .counters .opened)
       (x .counters .calendar) (y .counters .calendar) (x .counters .position) (y .counters .position)
-      (a .minislots ∙ sym (b .minislots)) (a .groups ∙ sym (b .groups)) (a .next ∙ sym (b .next)) (a .urgent ∙ sym (b .urgent)) (a .long ∙ sym (b .long))
+      (a .minislots ∙ sym (b .minislots)) (a .groups ∙ sym (b .groups)) (a .next ∙ sym (b .next)) (a .urgent ∙ sym (b .urgent)) (a .long-queue ∙ sym (b .long-queue))
       (ext-getD 0 (x .counters .resolution) (y .counters .resolution) (a .arrays .0 ∙ sym (b .arrays .0)) (λ j h. rq-at i x a j (omega (arith, a .arrays .0)) ∙ sym (rq-at k y b j (omega (arith, a .arrays .0)))))
       (ext-getD false (x .counters .opened) (y .counters .opened) (a .arrays .1 ∙ sym (b .arrays .1)) (λ j h. mark-at i x a j (omega (arith, a .arrays .1)) ∙ sym (mark-at k y b j (omega (arith, a .arrays .1)))))
       (a .calendar ∙ sym (b .calendar)) (a .position ∙ sym (b .position))
@@ -219,15 +253,15 @@ module _ (S : Start) (G : GoodStart S) (p : Plain) (t : Table) (R : Same S p t) 
           within = λ k h. record-within k (stationAt (ch .stations) k) (is-at k h) (omega (arith, (same-length S t ch E)));
           shared = λ k h. counters-same k 0 (stationAt (ch .stations) k) (stationAt (ch .stations) 0) (is-at k h) is-first;
           urgent = λ i lo hi. urgent-at i lo (rw (is-first .urgent) at hi);
-          long = λ i lo hi. long-at i lo (rw (is-first .long) at hi);
+          long = λ i lo hi. long-at i lo (rw (is-first .long-queue) at hi);
           resolution = λ g i gl gh lo hi. resolving-at g i lo (rw (is-first .resolution g gl gh) at hi);
           wire = λ g j gl gh jl jh.
               ap (λ (r : WireRow). getD (r .minislots) (j - 1) silent) (E .wire g gl gh)
-              ∙ row-at (index S) (length (S .indexes)) (λ j k. askedSender g j k (t .condition k)) 8 1 (j - 1) silent (omega arith)
-              ∙ ap (λ (z : ℕ). leaves (index S) (gather (λ k. askedSender g z k (t .condition k)) (length (S .indexes)))) (let w : 1 + (j - 1) ≡ j = omega arith in w)
-              ∙ ap (λ (n : ℕ). leaves (index S) (gather (λ k. askedSender g j k (t .condition k)) n)) (sym (same-length S t ch E))
+              ∙ row-at (indexOf S) (length (S .indexes)) (askedPair g (t .condition)) 8 1 (j - 1) silent (omega arith)
+              ∙ ap (λ (z : ℕ). leaves (indexOf S) (gather (askedPair g (t .condition) z) (length (S .indexes)))) (let w : 1 + (j - 1) ≡ j = omega arith in w)
+              ∙ ap (λ (n : ℕ). leaves (indexOf S) (gather (askedPair g (t .condition) j) n)) (sym (same-length S t ch E))
               ∙ ap (λ (l : List Request). together (map carries l)) (sym (asked-are S t g j 0 (ch .stations) (E .stations)));
-          size = (E .groups, λ g gl gh. ap (λ (r : WireRow). length (r .minislots)) (E .wire g gl gh) ∙ length-row (index S) (length (S .indexes)) (λ j k. askedSender g j k (t .condition k)) 8 1);
+          size = (E .groups, λ g gl gh. ap (λ (r : WireRow). length (r .minislots)) (E .wire g gl gh) ∙ length-row (indexOf S) (length (S .indexes)) (askedPair g (t .condition)) 8 1);
           owners = λ i x h o. owner-at i x o;
         }
       where
@@ -238,16 +272,22 @@ module _ (S : Start) (G : GoodStart S) (p : Plain) (t : Table) (R : Same S p t) 
 
         urgent-at : (i : ℕ) → 1 ≤ i → i ≤ t .h → howMany (atUrgent i) (ch .stations) ≡ 1
         urgent-at zero lo hi = absurd (omega arith)
-        urgent-at (suc i) lo hi = count-are S t (atUrgent (suc i)) (urgentHere (suc i)) (urgent-same (suc i)) 0 (ch .stations) (E .stations) ∙ rw (same-length S t ch E) (table .urgent i (omega arith))
+        urgent-at (suc i) lo hi = count-all S t (atUrgent (suc i)) (urgentHere (suc i)) (urgent-same (suc i)) (ch .stations) (E .stations) (same-length S t ch E) ∙ table .urgent i (omega arith)
 
         long-at : (i : ℕ) → 1 ≤ i → i ≤ t .n → howMany (coversLong i) (ch .stations) ≡ 1
         long-at zero lo hi = absurd (omega arith)
-        long-at (suc i) lo hi = count-are S t (coversLong (suc i)) (longHere (suc i)) (long-same (suc i)) 0 (ch .stations) (E .stations) ∙ rw (same-length S t ch E) (table .long i (omega arith))
+        long-at (suc i) lo hi = count-all S t (coversLong (suc i)) (longHere (suc i)) (long-same (suc i)) (ch .stations) (E .stations) (same-length S t ch E) ∙ table .long i (omega arith)
 
-        resolving-at : (g i : ℕ) → 1 ≤ i → i ≤ t .rq g → 2 ≤ howMany (atResolving g i) (ch .stations)
+        resolving-at : (g i : ℕ) → 1 ≤ i → i ≤ t .rq g → 2 ≤ howManyStations (atResolving g i) (ch .stations)
         resolving-at g zero lo hi = absurd (omega arith)
         resolving-at g (suc i) lo hi =
-            rw (count-are S t (atResolving g (suc i)) (resolvingHere g (suc i)) (resolving-same g (suc i)) 0 (ch .stations) (E .stations), (same-length S t ch E)) (table .resolution g i (omega arith))
+            rw (
+              ← (stations-messages (stationAt (ch .stations) 0 .counters) g (suc i) (ch .stations)
+                  (all-within (stationAt (ch .stations) 0 .counters) (ch .stations) (λ k h. record-within k (stationAt (ch .stations) k) (is-at k h) (omega (arith, (same-length S t ch E))))
+                  (λ k h. counters-same k 0 (stationAt (ch .stations) k) (stationAt (ch .stations) 0) (is-at k h) is-first))),
+              count-all S t (atResolving g (suc i)) (resolvingHere g (suc i)) (resolving-same g (suc i)) (ch .stations) (E .stations) (same-length S t ch E),
+            )
+            (table .resolution g i (omega arith))
 
     pub stays-sound : soundTable (ch .stations) (ch .wire) ≡ true
     stays-sound = says-sound (ch .stations) (ch .wire) meaning

@@ -1,7 +1,7 @@
--- A table's lists of places beside its stations: each place is named as often as stations stand there, and lies inside its queue if every condition is within
--- its limits. Assumes nothing.
+-- A table's lists of places beside its stations: each place is named as often as messages stand there, and lies inside its queue if every record is within
+-- its limits; and as many stations stand at a resolution place as messages, since the two records of one never share it. Assumes nothing.
 use mathlib.Core.Path.{_≡_, refl, sym, ap, subst, _∙_}
-use mathlib.Core.Bool.{Bool, true, false, cond, _&&_, Bool·beq}
+use mathlib.Core.Bool.{Bool, true, false, cond, _&&_, _||_, Bool·beq}
 use mathlib.Core.List.{List, [], _∷_, _++_, append-nil}
 use Prim.Native.Nat.{ℕ, zero, suc, _+_, _-_, _≤_}
 use native.Mathlib.Omega.{arith}
@@ -16,18 +16,19 @@ use Rattle.rules.specs.declared.Condition.the-variants.{Free, Fresh, Asked, Res
 use Rattle.rules.specs.StationLimits.{resolutionAt, conditionWithin}
 use Rattle.stretches.specs.declared.Stretch.{Stretch}
 use Rattle.channel_rules.specs.Soundness.{messagesOf, sameNumbers, sameMarks, sameCounters, urgentPlace, urgentPlaces, longStretch, longStretches, resolvingPlace, resolvingPlaces}
-use Rattle.channel_rules.specs.SoundMeaning.{atUrgent, coversLong, atResolving, howMany}
-use Rattle.rules.proofs.Views.{eqb-self}
-use Rattle.rules.proofs.LimitLaws.{between-bounds}
+use Rattle.channel_rules.specs.SoundMeaning.{atUrgent, coversLong, atResolving, howMany, howManyStations}
+use Rattle.rules.proofs.Views.{eqb-self, eqb-sym}
+use Rattle.rules.proofs.Parting.{standsIn, Parted, apart-parted}
+use Rattle.rules.proofs.LimitLaws.{between-bounds, RecordsIn}
 use Rattle.rules.proofs.SlotStep.{and-both}
 use Rattle.listlaws.proofs.Joining.{gather-append}
 use Rattle.places.proofs.Counting.{times, Inside, times-append, inside-append}
 use Rattle.stretches.proofs.Counting.{upFrom, spread, times-spread, AllLeft}
 
--- every condition is within its limits under the counters c
+-- both records of every station are within their limits under the counters c
 abbrev pub AllWithin : Counters → List Station → Type 0
 AllWithin c [] = Unit {0}
-AllWithin c (s ∷ l) = (conditionWithin c (s .condition) ≡ true) × AllWithin c l
+AllWithin c (s ∷ l) = RecordsIn c (s .short .condition) (s .long .condition) × AllWithin c l
 
 -- ---- the urgent queue
 
@@ -42,7 +43,9 @@ urgent-inside c (Long f l t) e = tt
 
 pub urgents-inside : (c : Counters) (l : List Station) → AllWithin c l → Inside (c .urgent) (urgentPlaces (messagesOf l))
 urgents-inside c [] w = tt
-urgents-inside c (s ∷ l) w = inside-append (c .urgent) (urgentPlace (s .condition)) (urgentPlaces (messagesOf l)) (urgent-inside c (s .condition) (w .0)) (urgents-inside c l (w .1))
+urgents-inside c (s ∷ l) w =
+    inside-append (c .urgent) (urgentPlace (s .short .condition)) (urgentPlace (s .long .condition) ++ urgentPlaces (messagesOf l)) (urgent-inside c (s .short .condition) (w .0 .short))
+    (inside-append (c .urgent) (urgentPlace (s .long .condition)) (urgentPlaces (messagesOf l)) (urgent-inside c (s .long .condition) (w .0 .long)) (urgents-inside c l (w .1)))
 
 urgent-times : (i : ℕ) (k : Condition) → times i (urgentPlace k) ≡ cond (atUrgent i k) 1 0
 urgent-times i Free = refl
@@ -54,7 +57,9 @@ urgent-times i (Long f l t) = refl
 
 pub urgents-times : (i : ℕ) (l : List Station) → times i (urgentPlaces (messagesOf l)) ≡ howMany (atUrgent i) l
 urgents-times i [] = refl
-urgents-times i (s ∷ l) = times-append i (urgentPlace (s .condition)) (urgentPlaces (messagesOf l)) ∙ rw (urgent-times i (s .condition), urgents-times i l)
+urgents-times i (s ∷ l) =
+    times-append i (urgentPlace (s .short .condition)) (urgentPlace (s .long .condition) ++ urgentPlaces (messagesOf l))
+    ∙ rw (times-append i (urgentPlace (s .long .condition)) (urgentPlaces (messagesOf l)), urgent-times i (s .short .condition), urgent-times i (s .long .condition), urgents-times i l)
 
 -- ---- the long queue
 
@@ -83,8 +88,12 @@ long-inside c (Long f l t) e = let (a, b, d, most) = long-parts c f l t e in ins
 pub longs-inside : (c : Counters) (l : List Station) → AllWithin c l → Inside (c .long) (gatherOf spread (longStretches (messagesOf l)))
 longs-inside c [] w = tt
 longs-inside c (s ∷ l) w =
-    rw (gather-append spread (longStretch (s .condition)) (longStretches (messagesOf l)))
-    (inside-append (c .long) (gatherOf spread (longStretch (s .condition))) (gatherOf spread (longStretches (messagesOf l))) (long-inside c (s .condition) (w .0)) (longs-inside c l (w .1)))
+    rw (
+      gather-append spread (longStretch (s .short .condition)) (longStretch (s .long .condition) ++ longStretches (messagesOf l)),
+      gather-append spread (longStretch (s .long .condition)) (longStretches (messagesOf l)),
+    )
+    (inside-append (c .long) (gatherOf spread (longStretch (s .short .condition))) _ (long-inside c (s .short .condition) (w .0 .short))
+    (inside-append (c .long) (gatherOf spread (longStretch (s .long .condition))) (gatherOf spread (longStretches (messagesOf l))) (long-inside c (s .long .condition) (w .0 .long)) (longs-inside c l (w .1))))
 
 left-append : (a b : List Stretch) → AllLeft a → AllLeft b → AllLeft (a ++ b)
 left-append [] b p q = q
@@ -100,7 +109,9 @@ long-left c (Long f l t) e = (long-parts c f l t e .1, tt)
 
 pub longs-left : (c : Counters) (l : List Station) → AllWithin c l → AllLeft (longStretches (messagesOf l))
 longs-left c [] w = tt
-longs-left c (s ∷ l) w = left-append (longStretch (s .condition)) (longStretches (messagesOf l)) (long-left c (s .condition) (w .0)) (longs-left c l (w .1))
+longs-left c (s ∷ l) w =
+    left-append (longStretch (s .short .condition)) (longStretch (s .long .condition) ++ longStretches (messagesOf l)) (long-left c (s .short .condition) (w .0 .short))
+    (left-append (longStretch (s .long .condition)) (longStretches (messagesOf l)) (long-left c (s .long .condition) (w .0 .long)) (longs-left c l (w .1)))
 
 long-times : (i : ℕ) (k : Condition) → times i (gatherOf spread (longStretch k)) ≡ cond (coversLong i k) 1 0
 long-times i Free = refl
@@ -113,8 +124,16 @@ long-times i (Long f l t) = ap (times i) (append-nil (upFrom f l)) ∙ times-spr
 pub longs-times : (i : ℕ) (l : List Station) → times i (gatherOf spread (longStretches (messagesOf l))) ≡ howMany (coversLong i) l
 longs-times i [] = refl
 longs-times i (s ∷ l) =
-    ap (times i) (gather-append spread (longStretch (s .condition)) (longStretches (messagesOf l)))
-    ∙ times-append i (gatherOf spread (longStretch (s .condition))) (gatherOf spread (longStretches (messagesOf l))) ∙ rw (long-times i (s .condition), longs-times i l)
+    ap (times i)
+    (gather-append spread (longStretch (s .short .condition)) (longStretch (s .long .condition) ++ longStretches (messagesOf l))
+    ∙ ap (λ (z : List ℕ). gatherOf spread (longStretch (s .short .condition)) ++ z) (gather-append spread (longStretch (s .long .condition)) (longStretches (messagesOf l))))
+    ∙ times-append i (gatherOf spread (longStretch (s .short .condition))) _
+    ∙ rw (
+      times-append i (gatherOf spread (longStretch (s .long .condition))) (gatherOf spread (longStretches (messagesOf l))),
+      long-times i (s .short .condition),
+      long-times i (s .long .condition),
+      longs-times i l,
+    )
 
 -- ---- a resolution queue
 
@@ -138,7 +157,8 @@ resolving-inside c g (Long f l t) e = tt
 pub resolvings-inside : (c : Counters) (g : ℕ) (l : List Station) → AllWithin c l → Inside (resolutionAt c g) (resolvingPlaces g (messagesOf l))
 resolvings-inside c g [] w = tt
 resolvings-inside c g (s ∷ l) w =
-    inside-append (resolutionAt c g) (resolvingPlace g (s .condition)) (resolvingPlaces g (messagesOf l)) (resolving-inside c g (s .condition) (w .0)) (resolvings-inside c g l (w .1))
+    inside-append (resolutionAt c g) (resolvingPlace g (s .short .condition)) (resolvingPlace g (s .long .condition) ++ resolvingPlaces g (messagesOf l)) (resolving-inside c g (s .short .condition) (w .0 .short))
+    (inside-append (resolutionAt c g) (resolvingPlace g (s .long .condition)) (resolvingPlaces g (messagesOf l)) (resolving-inside c g (s .long .condition) (w .0 .long)) (resolvings-inside c g l (w .1)))
 
 resolving-times : (g i : ℕ) (k : Condition) → times i (resolvingPlace g k) ≡ cond (atResolving g i k) 1 0
 resolving-times g i Free = refl
@@ -154,7 +174,37 @@ resolving-times g i (Long f l t) = refl
 
 pub resolvings-times : (g i : ℕ) (l : List Station) → times i (resolvingPlaces g (messagesOf l)) ≡ howMany (atResolving g i) l
 resolvings-times g i [] = refl
-resolvings-times g i (s ∷ l) = times-append i (resolvingPlace g (s .condition)) (resolvingPlaces g (messagesOf l)) ∙ rw (resolving-times g i (s .condition), resolvings-times g i l)
+resolvings-times g i (s ∷ l) =
+    times-append i (resolvingPlace g (s .short .condition)) (resolvingPlace g (s .long .condition) ++ resolvingPlaces g (messagesOf l))
+    ∙ rw (
+      times-append i (resolvingPlace g (s .long .condition)) (resolvingPlaces g (messagesOf l)),
+      resolving-times g i (s .short .condition),
+      resolving-times g i (s .long .condition),
+      resolvings-times g i l,
+    )
+
+-- a station's two records never stand at one place, so its messages there are counted as its stations are
+resolving-stands : (g i : ℕ) (k : Condition) → atResolving g i k ≡ standsIn g i k
+resolving-stands g i Free = refl
+resolving-stands g i (Fresh t) = refl
+resolving-stands g i (Asked h j t) = refl
+resolving-stands g i (Resolving h j t) = ap (λ (b : Bool). eqb h g && b) (eqb-sym i j)
+resolving-stands g i (Urgent j) = refl
+resolving-stands g i (Long f l t) = refl
+
+pub stations-messages : (c : Counters) (g i : ℕ) (l : List Station) → AllWithin c l → howMany (atResolving g i) l ≡ howManyStations (atResolving g i) l
+stations-messages c g i [] w = refl
+stations-messages c g i (s ∷ l) w =
+    rw (resolving-stands g i (s .short .condition), resolving-stands g i (s .long .condition), stations-messages c g i l (w .1))
+    (go (standsIn g i (s .short .condition)) (standsIn g i (s .long .condition)) (p .place g i))
+  where
+    p : Parted (s .short .condition) (s .long .condition)
+    p = apart-parted (s .short .condition) (s .long .condition) (w .0 .apart)
+
+    go : (a b : Bool) → (a ≡ true → b ≡ true → ⊥) → cond a 1 0 + (cond b 1 0 + howManyStations (atResolving g i) l) ≡ cond (a || b) 1 0 + howManyStations (atResolving g i) l
+    go true true h = absurd (h refl refl)
+    go true false h = omega arith
+    go false b h = omega arith
 
 -- ---- counters that are equal, as a test
 

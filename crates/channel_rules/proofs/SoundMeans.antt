@@ -24,10 +24,9 @@ use Rattle.rules.specs.StationCalls.{noStation}
 use Rattle.stretches.specs.declared.Stretch.{Stretch}
 use Rattle.places.specs.Places.{differ}
 use Rattle.stretches.specs.Stretches.{apart}
-use Rattle.crowds.specs.Crowds.{differentPlaces, namedTwice}
 use Rattle.channel_rules.specs.Soundness.{messagesOf, tableCounters, otherIndex, indexesDistinct, recordsWithin, sameCounters, countersShared, urgentPlaces, urgentSound, longStretches, longSound, resolvingPlaces, resolutionSoundAt, resolutionSound, askedMinislot, sameMinislot, rowSound, wireSound, entryOn, entriesOn, ownersSound, soundTable}
 use Rattle.channel_rules.specs.ChannelCalls.{blankRow}
-use Rattle.channel_rules.specs.SoundMeaning.{atUrgent, coversLong, atResolving, stationAt, howMany, HasStation, Sound}
+use Rattle.channel_rules.specs.SoundMeaning.{atUrgent, coversLong, atResolving, stationAt, howMany, howManyStations, HasStation, Sound}
 use Rattle.rules.proofs.Views.{eqb-self}
 use Rattle.listlaws.proofs.Table.{from-holds, from-at}
 use Rattle.rules.proofs.LimitLaws.{within-limits, arrays-lengths, station-in, calendar-in}
@@ -37,7 +36,7 @@ use Rattle.places.proofs.Counting.{pairs-once, once-pairs, exactly-one, one-eac
 use Rattle.stretches.proofs.Counting.{spread, length-spread, apart-once, once-apart}
 use Rattle.crowds.proofs.Counting.{two-or-more, twice-each}
 use Rattle.channel_rules.proofs.OwnersMean.{owner-on, on-owner}
-use Rattle.channel_rules.proofs.SoundLists.{AllWithin, urgents-inside, urgents-times, longs-inside, longs-left, longs-times, resolvings-inside, resolvings-times, counters-eq, counters-self}
+use Rattle.channel_rules.proofs.SoundLists.{AllWithin, urgents-inside, urgents-times, longs-inside, longs-left, longs-times, resolvings-times, stations-messages, counters-eq, counters-self}
 
 -- ---- lists of stations, element by element
 
@@ -71,10 +70,10 @@ eq-not a b h = rw (ne-eqb a b h)
 
 -- ---- the conditions within the shared counters
 
-all-within : (c : Counters) (l : List Station) → ((k : ℕ) → k < length l → stationWithin (stationAt l k) ≡ true) → ((k : ℕ) → k < length l → stationAt l k .counters ≡ c) → AllWithin c l
+pub all-within : (c : Counters) (l : List Station) → ((k : ℕ) → k < length l → stationWithin (stationAt l k) ≡ true) → ((k : ℕ) → k < length l → stationAt l k .counters ≡ c) → AllWithin c l
 all-within c [] w e = tt
 all-within c (s ∷ l) w e =
-    (rw (← (e zero (omega arith))) (station-in s (w zero (omega arith)) .condition), all-within c l (λ k h. w (suc k) (omega arith)) (λ k h. e (suc k) (omega arith)))
+    (rw (← (e zero (omega arith))) (station-in s (w zero (omega arith)) .records), all-within c l (λ k h. w (suc k) (omega arith)) (λ k h. e (suc k) (omega arith)))
 
 pub first-length : (l : List Station) → ((k : ℕ) → k < length l → stationWithin (stationAt l k) ≡ true) → length (tableCounters l .resolution) ≡ 8
 first-length [] w = refl
@@ -136,16 +135,15 @@ module _ (stations : List Station) (rows : List WireRow) (e : soundTable station
       ∙ exactly-one (tableCounters stations .long) (gatherOf spread (longStretches (messagesOf stations))) (longs-inside (tableCounters stations) stations all-in)
       (length-spread (longStretches (messagesOf stations)) ∙ eqb-true _ _ x) (apart-once (longStretches (messagesOf stations)) y) i (omega arith)
 
-  says-resolution : (g i : ℕ) → 1 ≤ g → g ≤ 8 → 1 ≤ i → i ≤ resolutionAt (tableCounters stations) g → 2 ≤ howMany (atResolving g i) stations
+  says-resolution : (g i : ℕ) → 1 ≤ g → g ≤ 8 → 1 ≤ i → i ≤ resolutionAt (tableCounters stations) g → 2 ≤ howManyStations (atResolving g i) stations
   unfolding resolutionSound
   says-resolution g zero gl gh lo hi = absurd (omega arith)
   says-resolution g (suc i) gl gh lo hi =
       let q = from-at (λ (i : ℕ) (r : ℕ). resolutionSoundAt stations (suc i) r) 0 (tableCounters stations .resolution) 0 (t .resolution) (g - 1) (omega (arith, first-length stations says-within)) in
       let v : resolutionSoundAt stations g (resolutionAt (tableCounters stations) g) ≡ true =
       subst (λ (z : ℕ). resolutionSoundAt stations z (resolutionAt (tableCounters stations) g) ≡ true) (let w : suc (0 + (g - 1)) ≡ g = omega arith in w) q in
-      let (x, y) = and-both (eqb (differentPlaces (resolvingPlaces g (messagesOf stations))) (resolutionAt (tableCounters stations) g)) (each (namedTwice (resolvingPlaces g (messagesOf stations))) (resolvingPlaces g (messagesOf stations))) v in
-      rw (← (resolvings-times g (suc i) stations))
-      (two-or-more (resolutionAt (tableCounters stations) g) (resolvingPlaces g (messagesOf stations)) (resolvings-inside (tableCounters stations) g stations all-in) (eqb-true _ _ x) y i (omega arith))
+      rw (← (stations-messages (tableCounters stations) g (suc i) stations all-in), ← (resolvings-times g (suc i) stations))
+      (two-or-more (resolutionAt (tableCounters stations) g) (resolvingPlaces g (messagesOf stations)) v i (omega arith))
 
   wire-eight : length rows ≡ 8
   unfolding wireSound
@@ -226,9 +224,9 @@ module _ (stations : List Station) (rows : List WireRow) (s : Sound stations row
           rw e
           (let w : suc k - 1 ≡ k = omega arith in
           let at : resolutionAt (tableCounters stations) (suc k) ≡ getD (tableCounters stations .resolution) k 0 = ap (λ (i : ℕ). getD (tableCounters stations .resolution) i 0) w in
-          let (x, y) = twice-each (resolutionAt (tableCounters stations) (suc k)) (resolvingPlaces (suc k) (messagesOf stations)) (resolvings-inside (tableCounters stations) (suc k) stations in-limits)
-          (λ i l. rw (resolvings-times (suc k) (suc i) stations) (s .resolution (suc k) (suc i) (omega arith) (omega arith) (omega arith) (omega arith))) in
-          rw (eq-eqb (differentPlaces (resolvingPlaces (suc k) (messagesOf stations))) (getD (tableCounters stations .resolution) k 0) (x ∙ at)) y)
+          subst (λ (r : ℕ). resolutionSoundAt stations (suc k) r ≡ true) at
+          (twice-each (resolutionAt (tableCounters stations) (suc k)) (resolvingPlaces (suc k) (messagesOf stations))
+          (λ i l. rw (resolvings-times (suc k) (suc i) stations, stations-messages (tableCounters stations) (suc k) (suc i) stations in-limits) (s .resolution (suc k) (suc i) (omega arith) (omega arith) (omega arith) (omega arith)))))
 
       slot-at : (k : ℕ) → k < 8 → (z j : ℕ) → z ≡ j → j < 8 → sameMinislot (getD (getD rows k blankRow .minislots) j silent) (askedMinislot stations (suc k) (suc z)) ≡ true
       slot-at k h z j e w =

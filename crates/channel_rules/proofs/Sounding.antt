@@ -12,11 +12,11 @@ use Rattle.listlaws.proofs.Totals.{total-cong}
 use Rattle.rules.proofs.Census.{length-total, length-gather, ofBy-ofBy}
 use Rattle.rules.proofs.QueueViews.{shifted-at as shifted-here, shifted-plus, place-map}
 use Rattle.rules.proofs.Relation.{Agrees, Same, Fits, Crowded, urgentOf, longOf, resolvingOf}
-use Rattle.rules.proofs.Shared.{Table, gather}
+use Rattle.rules.proofs.Shared.{Table, records, gather}
 use Rattle.rules.proofs.Views.{Sender, senderAt, eqb-self, seen, atFirst, shifted, atPlace, run}
 use Rattle.rules.specs.Calls.{Start}
 use Rattle.listlaws.specs.Lists.{keepIf, onlyIf}
-use Rattle.rules.specs.Messages.{Message, Segment, ofBy, of, segment}
+use Rattle.rules.specs.Messages.{Message, Segment, ofBy, of, segment, recordOf}
 use Rattle.rules.specs.Plain.{Plain}
 use Rattle.rules.specs.Positions.{one, part}
 use Rattle.rules.specs.declared.Condition.{Condition}
@@ -57,9 +57,9 @@ InsideTable S t (Urgent i) = (1 ≤ i) × (i ≤ t .h)
 InsideTable S t (Long f l s) = (1 ≤ f) × (f + l ≤ t .n + 1) × (1 ≤ l) × (l ≤ s) × (2 ≤ s) × (s ≤ 255)
 
 pub record TableSound (S : Start) (t : Table) : Type 0 where
-  pub urgent : (i : ℕ) → i < t .h → length (gather (λ k. urgentHere (suc i) k (t .condition k)) (length (S .indexes))) ≡ 1
-  pub long : (i : ℕ) → i < t .n → length (gather (λ k. longHere (suc i) k (t .condition k)) (length (S .indexes))) ≡ 1
-  pub resolution : (g i : ℕ) → i < t .rq g → 2 ≤ length (gather (λ k. resolvingHere g (suc i) k (t .condition k)) (length (S .indexes)))
+  pub urgent : (i : ℕ) → i < t .h → length (gather (λ k. urgentHere (suc i) k (t .condition k)) (records S)) ≡ 1
+  pub long : (i : ℕ) → i < t .n → length (gather (λ k. longHere (suc i) k (t .condition k)) (records S)) ≡ 1
+  pub resolution : (g i : ℕ) → i < t .rq g → 2 ≤ length (gather (λ k. resolvingHere g (suc i) k (t .condition k)) (records S))
   pub inside : (k : ℕ) → InsideTable S t (t .condition k)
   pub hmax : t .h ≤ 4095
   pub nmax : t .n ≤ 65535
@@ -68,7 +68,7 @@ pub record TableSound (S : Start) (t : Table) : Type 0 where
   pub low : 1 ≤ t .next
   pub high : t .next ≤ S .n
 
--- as many stations as entries
+-- as many records as entries
 census : (K : ℕ) (x : List Sender) (f : ℕ → List Sender) → ((k : ℕ) → K ≤ k → f k ≡ []) → ((k : ℕ) → ofBy (λ s. s .position) k x ≡ f k) → length (gather f K) ≡ length x
 census K x f outside each =
     length-gather (λ (z : Sender). z .position) f (λ i k. subst (λ (z : List Sender). ofBy (λ s. s .position) k z ≡ onlyIf (eqb i k) z) (each i) (ofBy-ofBy (λ (s : Sender). s .position) i k x)) K outside
@@ -86,35 +86,35 @@ shifted-run x m (suc n) l s zero = rw (leb·suc-zero n)
 shifted-run x m (suc n) l s (suc i) = shifted-run x m n l s i ∙ rw (leb·suc-suc n i, suc-add n l, leb·suc-suc (suc i) (n + l))
 
 -- one entry at each place of a queue of messages, or of segments
-one-at : (k : ℕ) (q : List Message) (i : ℕ) → ofBy (λ s. s .position) k (map (λ (m : Message). senderAt (m .station) 0) (seen (λ (m : Message). m ∷ []) q i)) ≡ map (λ (m : Message). senderAt k 0) (seen (one k) q i)
+one-at : (k : ℕ) (q : List Message) (i : ℕ) → ofBy (λ s. s .position) k (map (λ (m : Message). senderAt (recordOf m) 0) (seen (λ (m : Message). m ∷ []) q i)) ≡ map (λ (m : Message). senderAt k 0) (seen (one k) q i)
 one-at k [] i = refl
-one-at k (x ∷ q) zero = go (eqb (x .station) k) refl
+one-at k (x ∷ q) zero = go (eqb (recordOf x) k) refl
   where
-    go : (b : Bool) → eqb (x .station) k ≡ b → keepIf b (senderAt (x .station) 0) [] ≡ map (λ (m : Message). senderAt k 0) (onlyIf b (x ∷ []))
-    go true e = rw (eqb-true (x .station) k e)
+    go : (b : Bool) → eqb (recordOf x) k ≡ b → keepIf b (senderAt (recordOf x) 0) [] ≡ map (λ (m : Message). senderAt k 0) (onlyIf b (x ∷ []))
+    go true e = rw (eqb-true (recordOf x) k e)
     go false e = refl
 one-at k (x ∷ q) (suc i) = one-at k q i
 
 part-at : (k : ℕ) (q : List Segment) (i : ℕ)
-    → ofBy (λ s. s .position) k (map (λ (m : Segment). senderAt (m .message .station) 0) (seen (λ (m : Segment). m ∷ []) q i)) ≡ map (λ (m : Segment). senderAt k 0) (seen (part k) q i)
+    → ofBy (λ s. s .position) k (map (λ (m : Segment). senderAt (recordOf (m .message)) 0) (seen (λ (m : Segment). m ∷ []) q i)) ≡ map (λ (m : Segment). senderAt k 0) (seen (part k) q i)
 part-at k [] i = refl
-part-at k (x ∷ q) zero = go (eqb (x .message .station) k) refl
+part-at k (x ∷ q) zero = go (eqb (recordOf (x .message)) k) refl
   where
-    go : (b : Bool) → eqb (x .message .station) k ≡ b → keepIf b (senderAt (x .message .station) 0) [] ≡ map (λ (m : Segment). senderAt k 0) (onlyIf b (x ∷ []))
-    go true e = rw (eqb-true (x .message .station) k e)
+    go : (b : Bool) → eqb (recordOf (x .message)) k ≡ b → keepIf b (senderAt (recordOf (x .message)) 0) [] ≡ map (λ (m : Segment). senderAt k 0) (onlyIf b (x ∷ []))
+    go true e = rw (eqb-true (recordOf (x .message)) k e)
     go false e = refl
 part-at k (x ∷ q) (suc i) = part-at k q i
 
-of-tag : (k : ℕ) (l : List Message) → ofBy (λ s. s .position) k (map (λ (m : Message). senderAt (m .station) 0) l) ≡ map (λ (m : Message). senderAt k 0) (of k l)
+of-tag : (k : ℕ) (l : List Message) → ofBy (λ s. s .position) k (map (λ (m : Message). senderAt (recordOf m) 0) l) ≡ map (λ (m : Message). senderAt k 0) (of k l)
 of-tag k [] = refl
-of-tag k (x ∷ l) = go (of-tag k l) (eqb (x .station) k) refl
+of-tag k (x ∷ l) = go (of-tag k l) (eqb (recordOf x) k) refl
   where
-    go : ofBy (λ s. s .position) k (map (λ (m : Message). senderAt (m .station) 0) l) ≡ map (λ (m : Message). senderAt k 0) (of k l) → (b : Bool) → eqb (x .station) k ≡ b
-        → keepIf b (senderAt (x .station) 0) (ofBy (λ s. s .position) k (map (λ (m : Message). senderAt (m .station) 0) l)) ≡ map (λ (m : Message). senderAt k 0) (keepIf b x (of k l))
-    go ih true e = rw (eqb-true (x .station) k e) (ap (λ (z : List Sender). senderAt k 0 ∷ z) ih)
+    go : ofBy (λ s. s .position) k (map (λ (m : Message). senderAt (recordOf m) 0) l) ≡ map (λ (m : Message). senderAt k 0) (of k l) → (b : Bool) → eqb (recordOf x) k ≡ b
+        → keepIf b (senderAt (recordOf x) 0) (ofBy (λ s. s .position) k (map (λ (m : Message). senderAt (recordOf m) 0) l)) ≡ map (λ (m : Message). senderAt k 0) (keepIf b x (of k l))
+    go ih true e = rw (eqb-true (recordOf x) k e) (ap (λ (z : List Sender). senderAt k 0 ∷ z) ih)
     go ih false e = ih
 
-crowd-at : (k : ℕ) (q : List (List Message)) (i : ℕ) → ofBy (λ s. s .position) k (map (λ (m : Message). senderAt (m .station) 0) (seen (λ (l : List Message). l) q i)) ≡ map (λ (m : Message). senderAt k 0) (seen (of k) q i)
+crowd-at : (k : ℕ) (q : List (List Message)) (i : ℕ) → ofBy (λ s. s .position) k (map (λ (m : Message). senderAt (recordOf m) 0) (seen (λ (l : List Message). l) q i)) ≡ map (λ (m : Message). senderAt k 0) (seen (of k) q i)
 crowd-at k [] i = refl
 crowd-at k (x ∷ q) zero = of-tag k x
 crowd-at k (x ∷ q) (suc i) = crowd-at k q i
@@ -198,18 +198,18 @@ module _ (S : Start) (p : Plain) (t : Table) (R : Same S p t) where
   sound =
       record {
         urgent = λ i l.
-            census (length (S .indexes)) (map (λ (m : Message). senderAt (m .station) 0) (seen (λ (m : Message). m ∷ []) (p .urgent) i)) (λ k. urgentHere (suc i) k (t .condition k)) (λ k w. rw (R .outside k w))
+            census (records S) (map (λ (m : Message). senderAt (recordOf m) 0) (seen (λ (m : Message). m ∷ []) (p .urgent) i)) (λ k. urgentHere (suc i) k (t .condition k)) (λ k w. rw (R .outside k w))
             (λ k. one-at k (p .urgent) i ∙ ap (map (λ (m : Message). senderAt k 0)) (R .agrees k .urgent i) ∙ urgent-here k (R .message k) (t .condition k) i)
-            ∙ length-map (seen (λ (m : Message). m ∷ []) (p .urgent) i) (λ (m : Message). senderAt (m .station) 0) ∙ length-one (p .urgent) i (rw (R .h) at l);
+            ∙ length-map (seen (λ (m : Message). m ∷ []) (p .urgent) i) (λ (m : Message). senderAt (recordOf m) 0) ∙ length-one (p .urgent) i (rw (R .h) at l);
         long = λ i l.
-            census (length (S .indexes)) (map (λ (m : Segment). senderAt (m .message .station) 0) (seen (λ (m : Segment). m ∷ []) (p .long) i)) (λ k. longHere (suc i) k (t .condition k)) (λ k w. rw (R .outside k w))
+            census (records S) (map (λ (m : Segment). senderAt (recordOf (m .message)) 0) (seen (λ (m : Segment). m ∷ []) (p .long) i)) (λ k. longHere (suc i) k (t .condition k)) (λ k w. rw (R .outside k w))
             (λ k. part-at k (p .long) i ∙ ap (map (λ (m : Segment). senderAt k 0)) (R .agrees k .long i) ∙ long-here k (R .message k) S (t .condition k) (R .agrees k .fits) i)
-            ∙ length-map (seen (λ (m : Segment). m ∷ []) (p .long) i) (λ (m : Segment). senderAt (m .message .station) 0) ∙ length-one (p .long) i (rw (R .n) at l);
+            ∙ length-map (seen (λ (m : Segment). m ∷ []) (p .long) i) (λ (m : Segment). senderAt (recordOf (m .message)) 0) ∙ length-one (p .long) i (rw (R .n) at l);
         resolution = λ g i l.
             rw (
-              census (length (S .indexes)) (map (λ (m : Message). senderAt (m .station) 0) (seen (λ (x : List Message). x) (p .group g .resolution) i)) (λ k. resolvingHere g (suc i) k (t .condition k)) (λ k w. rw (R .outside k w))
+              census (records S) (map (λ (m : Message). senderAt (recordOf m) 0) (seen (λ (x : List Message). x) (p .group g .resolution) i)) (λ k. resolvingHere g (suc i) k (t .condition k)) (λ k w. rw (R .outside k w))
                   (λ k. crowd-at k (p .group g .resolution) i ∙ ap (map (λ (m : Message). senderAt k 0)) (R .agrees k .resolution g i) ∙ resolving-here k (R .message k) g (t .condition k) i),
-              length-map (seen (λ (x : List Message). x) (p .group g .resolution) i) (λ (m : Message). senderAt (m .station) 0),
+              length-map (seen (λ (x : List Message). x) (p .group g .resolution) i) (λ (m : Message). senderAt (recordOf m) 0),
             )
             (length-crowd (p .group g .resolution) i (rw (R .rq g) at l) (R .crowds g));
         inside = λ k. inside-of k (t .condition k) (R .agrees k);

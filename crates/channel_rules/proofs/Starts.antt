@@ -22,7 +22,7 @@ use Rattle.places.specs.Places.{differ}
 use Rattle.channel_rules.specs.ChannelCalls.{Channel, blankRow, newChannel, hasStations, ChannelStarted, channelStartNumberOf, channelStartOf, refusedBeginning}
 use Rattle.rules.specs.Calls.{Start, index}
 use Rattle.rules.proofs.Views.{Sender}
-use Rattle.rules.proofs.Shared.{tableStart, collect}
+use Rattle.rules.proofs.Shared.{tableStart, collect, indexOf}
 use Rattle.rules.proofs.LimitLaws.{between-bounds}
 use Rattle.rules.proofs.SlotStep.{and-both}
 use Rattle.channel_rules.proofs.SoundMeans.{all-at, pair-at, not-eq}
@@ -84,13 +84,14 @@ new-are S j (x ∷ l) h = (
     groups = refl;
     next = refl;
     urgent = refl;
-    long = refl;
+    long-queue = refl;
     arrays = (refl, refl);
     resolution = λ g lo hi. getD-replicate 8 (g - 1) 0 0 (omega arith);
     mark = λ g lo hi. getD-replicate 8 (g - 1) true false (omega arith);
     calendar = refl;
     position = refl;
-    condition = refl;
+    short = refl;
+    long = refl;
   },
   new-are S (suc j) l (λ i w. h (suc i) (omega arith) ∙ ap (index S) (omega arith)),
 )
@@ -113,6 +114,6 @@ new-embodies S =
     record {
       stations = new-are S 0 (S .indexes) (λ i w. ap (index S) (sym (zero-add i)));
       indexes = new-names (S .m) (S .n) (S .indexes);
-      wire = λ g lo hi. getD-replicate 8 (g - 1) blankRow blankRow (omega arith) ∙ ap (λ (z : List Minislot). record { minislots = z }) (silent-row (index S) (length (S .indexes)) 8 1);
+      wire = λ g lo hi. getD-replicate 8 (g - 1) blankRow blankRow (omega arith) ∙ ap (λ (z : List Minislot). record { minislots = z }) (silent-row (indexOf S) (length (S .indexes)) 8 1);
       groups = refl;
     }

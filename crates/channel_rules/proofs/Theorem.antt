@@ -1,10 +1,12 @@
 -- DEMAND 3, proved: the relation between plain channel, shared table and records is kept along every list of calls, and the statement is read off it.
 -- Assumes nothing.
 use mathlib.Core.Path.{_≡_, refl, sym, ap, subst, _∙_}
+use mathlib.Core.Bool.{Bool, true, false, cond}
 use mathlib.Core.List.{List, [], _∷_}
 use Prim.Native.Nat.{ℕ, suc, _+_, _-_, _≤_, _<_}
 use native.Mathlib.Omega.{arith}
 use native.Mathlib.Nat.{zero-add}
+use lib.Dec.{eqb}
 use lib.ListN.{length, getD}
 use Rattle.requests.specs.Together.{silent}
 use Rattle.rules.specs.declared.WireRow.{WireRow}
@@ -12,12 +14,13 @@ use Rattle.rules.specs.declared.Condition.the-variants.{Long}
 use Rattle.rules.specs.Serving.{waiting}
 use Rattle.channel_rules.specs.SoundMeaning.{stationAt}
 use Rattle.channel_rules.specs.ChannelCalls.{Channel, newChannel, channelCall, channelAfter, channelAnswers}
-use Rattle.rules.specs.Calls.{Start, index, Call, Offer, Slot, Calendar}
-use Rattle.rules.specs.Messages.{Segment}
+use Rattle.rules.specs.Calls.{Start, Call, Offer, Slot, Calendar}
+use Rattle.rules.specs.Messages.{Message, Segment, shortRecord, longRecord, recordOf}
 use Rattle.rules.specs.Plain.{Plain, plainOwner, plainStart, plainCall, plainAfter, plainAnswers}
-use Rattle.channel_rules.specs.Demand3.{noMessage, segmentAt, messageAt, SendersAre, SenderRule, MessageShows, Demand3After, Demand3Holds}
+use Rattle.channel_rules.specs.Demand3.{noMessage, segmentAt, messageAt, holderOf, SendersAre, SenderRule, MessageShows, Demand3After, Demand3Holds}
 use Rattle.rules.proofs.Views.{senderAt, dataFrom, seen}
-use Rattle.rules.proofs.Shared.{Table, tableStart, tableCall, tableAfter, tableAnswers, gather, askedSender}
+use Rattle.rules.proofs.Shared.{Table, tableStart, tableCall, tableAfter, tableAnswers, gather, records, indexOf, askedPair}
+use Rattle.rules.proofs.Records.{holder, holder-of, holder-long}
 use Rattle.rules.proofs.Relation.{Same, Fits}
 use Rattle.listlaws.proofs.Totals.{total}
 use Rattle.rules.proofs.SlotStep.{owner-eq, settled-eq}
@@ -102,15 +105,26 @@ module _ (S : Start) (G : GoodStart S) where
     is : (k : ℕ) → k < length (S .indexes) → IsStation S table k (stationAt (after .stations) k)
     is k h = is-at S G plain table R after E k (omega (arith, as-many))
 
-    stretch-shows : (k f l t i : ℕ) → k < length (S .indexes) → stationAt (after .stations) k .condition ≡ Long f l t → i < l
+    stretch-shows : (k f l t i : ℕ) → k < length (S .indexes) → stationAt (after .stations) k .long .condition ≡ Long f l t → i < l
         → (segmentAt plain (f + i) .message .station ≡ k) × (segmentAt plain (f + i) .number ≡ t - l + 1 + i)
     stretch-shows k f l t i h e hi =
-        let q : table .condition k ≡ Long f l t = sym (is k h .condition) ∙ e in
-        let fit : Fits S (R .message k) (Long f l t) = subst (Fits S (R .message k)) q (R .agrees k .fits) in
+        let r = longRecord k in
+        let q : table .condition r ≡ Long f l t = sym (is k h .long) ∙ e in
+        let fit : Fits S (R .message r) (Long f l t) = subst (Fits S (R .message r)) q (R .agrees r .fits) in
         let at : f - 1 + i ≡ f + i - 1 = omega arith in
-        let v = entry-at (plain .long) (f + i - 1) (record { message = noMessage; number = 0 }) (senderAt k (t - l + 1 + i))
-        (ap (seen (λ (x : Segment). dataFrom x ∷ []) (plain .long)) (sym at) ∙ w .stretch k f l t q i hi) in
-        (ap (λ s. s .position) v, ap (λ s. s .value) v)
+        let v = entry-at (plain .long) (f + i - 1) (record { message = noMessage; number = 0 }) (senderAt r (t - l + 1 + i))
+        (ap (seen (λ (x : Segment). dataFrom x ∷ []) (plain .long)) (sym at) ∙ w .stretch r f l t q i hi) in
+        (sym (holder-of (segmentAt plain (f + i) .message)) ∙ ap (λ s. holder (s .position)) v ∙ holder-long k, ap (λ s. s .value) v)
+
+    -- the condition of the record that holds a message
+    holder-is : (m : Message) → m .station < length (S .indexes) → holderOf after m ≡ table .condition (recordOf m)
+    unfolding recordOf
+    holder-is m h = go (eqb (m .slots) 1)
+      where
+        go : (b : Bool) → cond b (stationAt (after .stations) (m .station) .short .condition) (stationAt (after .stations) (m .station) .long .condition)
+            ≡ table .condition (cond b (shortRecord (m .station)) (longRecord (m .station)))
+        go true = is (m .station) h .short
+        go false = is (m .station) h .long
 
     message-shows : (i : ℕ) → i < length (plain .taken) → MessageShows plain after (messageAt plain i)
     message-shows i h =
@@ -120,7 +134,7 @@ module _ (S : Start) (G : GoodStart S) where
           delivered = d;
           most = most;
           order = order;
-          rest = λ l. ap waiting (is (messageAt plain i .station) (station-of S plain table R (messageAt plain i) here) .condition) ∙ left l;
+          rest = λ l. ap waiting (holder-is (messageAt plain i) (station-of S plain table R (messageAt plain i) here)) ∙ left l;
         }
 
     claim : Demand3After S begun calls
@@ -134,19 +148,20 @@ module _ (S : Start) (G : GoodStart S) where
                 groups = is k h .groups;
                 next = is k h .next ∙ w .next;
                 urgent = is k h .urgent ∙ w .h;
-                long = is k h .long ∙ w .n;
+                long = is k h .long-queue ∙ w .n;
                 resolution = λ g lo hi. is k h .resolution g lo hi ∙ w .rq g;
                 opened = λ g lo hi. is k h .mark g lo hi ∙ w .opened g;
                 calendar = is k h .calendar ∙ R .calendar;
                 position = is k h .position ∙ R .position;
               };
           equal = λ i k hi hk. counters-same S G plain table R i k (stationAt (after .stations) i) (stationAt (after .stations) k) (is i hi) (is k hk);
-          condition = λ k h. is k h .condition ∙ w .condition k;
+          short = λ k h. is k h .short ∙ w .condition (shortRecord k);
+          long = λ k h. is k h .long ∙ w .condition (longRecord k);
           stretch = stretch-shows;
           wire = λ g j gl gh jl jh.
               ap (λ (r : WireRow). getD (r .minislots) (j - 1) silent) (E .wire g gl gh)
-              ∙ row-at (index S) (length (S .indexes)) (λ j k. askedSender g j k (table .condition k)) 8 1 (j - 1) silent (omega arith)
-              ∙ ap (λ (z : ℕ). leaves (index S) (gather (λ k. askedSender g z k (table .condition k)) (length (S .indexes)))) (let v : 1 + (j - 1) ≡ suc (j - 1) = omega arith in v)
+              ∙ row-at (indexOf S) (length (S .indexes)) (askedPair g (table .condition)) 8 1 (j - 1) silent (omega arith)
+              ∙ ap (λ (z : ℕ). leaves (indexOf S) (gather (askedPair g (table .condition) z) (length (S .indexes)))) (let v : 1 + (j - 1) ≡ suc (j - 1) = omega arith in v)
               ∙ wire-shows S plain table R g (j - 1);
           answers = told;
           never14 = rw told (never-comes 14 refl refl refl refl refl refl refl refl S (plainStart S) calls);
@@ -164,7 +179,7 @@ module _ (S : Start) (G : GoodStart S) where
               ledger-all S plain table R
               ∙ ap (λ (n : ℕ). length (plain .history) + n)
               (let v = waiting-sum S table 0 (after .stations) (E .stations) in
-              sym (omega (arith, v, ap (λ (n : ℕ). total n (λ k. waiting (table .condition k))) (let z : 0 + length (after .stations) ≡ length (S .indexes) = omega (arith, as-many) in z))));
+              sym (omega (arith, v, ap (λ (n : ℕ). total n (λ k. waiting (table .condition k))) (let z : (0 + length (after .stations)) + (0 + length (after .stations)) ≡ records S = omega (arith, as-many) in z))));
         }
 
 -- THE THEOREM

@@ -11,7 +11,7 @@ use lib.ListN.{length, getD}
 use borrow.Author.Tests.{ne-eqb, eqb-false, not-true}
 use Rattle.listlaws.specs.Lists.{keepIf}
 use Rattle.rules.specs.Calls.{Start}
-use Rattle.rules.specs.Messages.{Message, Segment, of, segment, segmentsFrom, deliveredOf, deliveredFor}
+use Rattle.rules.specs.Messages.{Message, Segment, of, segment, segmentsFrom, deliveredOf, deliveredFor, recordOf}
 use Rattle.rules.specs.Plain.{Plain, slotSum, waits}
 use Rattle.rules.specs.Serving.{waiting}
 use Rattle.channel_rules.specs.Demand3.{noMessage, messageAt, NotAllDelivered}
@@ -37,7 +37,7 @@ in-whole (m ∷ l) x h =
 
 in-own : (k : ℕ) (m : Message) (l : List Message) → List·Memᴰ m (of k l) → List·Memᴰ m l
 in-own k m [] h = h
-in-own k m (x ∷ l) h = go (in-own k m l) (eqb (x .station) k) h
+in-own k m (x ∷ l) h = go (in-own k m l) (eqb (recordOf x) k) h
   where
     go : (List·Memᴰ m (of k l) → List·Memᴰ m l) → (b : Bool) → List·Memᴰ m (keepIf b x (of k l)) → List·Memᴰ m (x ∷ l)
     go ih true h = ⊎-elim (λ e. List·Memᴰ·head e) (λ w. List·Memᴰ·tail (ih w)) (List·Memᴰ·cases-cons h)
@@ -54,7 +54,7 @@ place-in m (x ∷ l) h =
     ⊎-elim (λ e. (0, omega arith, sym e)) (λ w. let (i, lo, e) = place-in m l w in (suc i, omega arith, e)) (List·Memᴰ·cases-cons h)
 
 module _ (S : Start) (p : Plain) (t : Table) (R : Same S p t) (k : ℕ) where
-  -- what remains in station k is of a message taken
+  -- what remains in record k is of a message taken
   holds : (l s : ℕ) → remaining (R .message k) (t .condition k) ≡ segmentsFrom (R .message k) l s → 0 < l → List·Memᴰ (R .message k) (p .taken)
   holds zero s e h = absurd (omega arith)
   holds (suc l) s e h =
@@ -65,13 +65,13 @@ module _ (S : Start) (p : Plain) (t : Table) (R : Same S p t) (k : ℕ) where
       (behind x (deliveredOf k (p .history)) (segmentsFrom (R .message k) l (suc s)))))
 
   -- a message that has something left, by its position among those taken
-  named : (m : Message) → List·Memᴰ m (p .taken) → m .station ≡ k → length (deliveredFor (m .serial) (p .history)) < m .slots → NotAllDelivered p k
+  named : (m : Message) → List·Memᴰ m (p .taken) → recordOf m ≡ k → length (deliveredFor (m .serial) (p .history)) < m .slots → NotAllDelivered p k
   named m here own left =
       let (i, lo, at) = place-in m (p .taken) here in
       record {
         which = i;
         taken = lo;
-        own = ap (λ (x : Message). x .station) at ∙ own;
+        own = ap recordOf at ∙ own;
         left = omega (arith, ap (λ (x : Message). length (deliveredFor (x .serial) (p .history))) at, ap (λ (x : Message). x .slots) at);
       }
 

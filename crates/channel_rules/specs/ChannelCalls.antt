@@ -1,5 +1,5 @@
 -- The channel: a table of stations and a wire; its start, its offers, its calendar and its slots (paper 01, "The channel" and "Operations
--- and their numbers"; paper 02, T-02). A refusal leaves table and wire as they were. Assumes nothing.
+-- and their numbers"; paper 02, T-02 and T-04). A refusal leaves table and wire as they were. Assumes nothing.
 use mathlib.Core.Bool.{Bool, _&&_}
 use mathlib.Core.List.{List, [], _∷_, map}
 use Prim.Native.Nat.{ℕ, zero, suc, _+_, _-_}
@@ -29,7 +29,6 @@ use Rattle.rules.specs.Queueing.{stepOneOf}
 use Rattle.rules.specs.declared.Turn.{Turn}
 use Rattle.rules.specs.declared.Turn.the-variants.{Owned as OwnedTurn, Urgent as UrgentTurn, Long as LongTurn}
 use Rattle.rules.specs.declared.Turn.the-variants.{Resolve as ResolveTurn, Open as OpenTurn}
-use Rattle.rules.specs.Requesting.{totalOf}
 use Rattle.rules.specs.Outcome.{outcomeOf}
 use Rattle.rules.specs.StationCalls.{startStation, noStation, isIndex, withMessage, takingNumberOf, slotOf}
 use Rattle.rules.specs.Settings.{calendarOn}
@@ -86,7 +85,7 @@ channelStartOf ch m n indexes =
     byNumber (channelStartNumberOf (length (ch .stations)) m n indexes) (refusedBeginning ch)
     (record { state = newChannel m n indexes; answer = Ready })
 
--- ---- offering: 14, 18, 16, 9, 10
+-- ---- offering: 14, 18, 16, 10, 9
 
 abbrev pub refused : Channel → ℕ → ChannelResult
 refused ch n = record { state = ch; answer = Refused n }
@@ -108,7 +107,7 @@ channelOfferNumberOf ch index bytes =
     unless (hasStations (ch .stations)) 14
     (unless (soundTable (ch .stations) (ch .wire)) 18
     (unless (isOnTable (ch .stations) index) 16
-    (takingNumberOf (stationOf ch index .condition) bytes)))
+    (takingNumberOf (stationOf ch index) bytes)))
 
 unfoldable pub channelOfferOf : Channel → ℕ → ℕ → ChannelResult
 channelOfferOf ch index bytes =
@@ -150,7 +149,7 @@ slotsOf words counts (s ∷ l) (pick ∷ picks) = slotOf s words counts pick ∷
 -- the request that a station's slot leaves in minislot j
 abbrev pub requestIn : ℕ → StationSlot → SlotAnswer → List Request
 requestIn j r (WentSlot turn minislot segment) =
-    onlyIf (eqb minislot j) (record { index = r .station .index; total = totalOf (r .station .condition) } ∷ [])
+    onlyIf (eqb minislot j) (record { index = r .station .index; total = r .request } ∷ [])
 requestIn j r (RefusedSlot n) = []
 
 abbrev pub requestsIn : ℕ → List StationSlot → List Request

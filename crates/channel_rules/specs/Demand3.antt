@@ -1,8 +1,8 @@
--- DEMAND 3 (paper 01, "Demand 3's list" and "The channel"; paper 02, T-02): one claim over every list of calls on one channel from a start
--- that goes through, refused calls included, any arguments at all. Each field is a sentence of the paper. `ch` is the channel after the
--- list, `p` the plain channel after it. Assumes nothing.
+-- DEMAND 3 (paper 01, "Demand 3's list" and "The channel"; paper 02, T-02 and T-04): one claim over every list of calls on one channel from
+-- a start that goes through, refused calls included, any arguments at all. Each field is a sentence of the paper. `ch` is the channel after
+-- the list, `p` the plain channel after it. Assumes nothing.
 use mathlib.Core.Path.{_≡_}
-use mathlib.Core.Bool.{Bool, true, false}
+use mathlib.Core.Bool.{Bool, true, false, cond}
 use mathlib.Core.List.{List, [], _∷_, map}
 use mathlib.Core.Option.{Option, none, some}
 use Prim.Native.Nat.{ℕ, _+_, _-_, _%_, _≤_, _<_}
@@ -17,6 +17,7 @@ use Rattle.rules.specs.Calendars.{ownerOf}
 use Rattle.rules.specs.Hearing.{wordsOf}
 use Rattle.rules.specs.Queueing.{placesAfter}
 use Rattle.rules.specs.declared.Turn.{Turn}
+use Rattle.rules.specs.declared.Condition.{Condition}
 use Rattle.rules.specs.declared.Condition.the-variants.{Long}
 use Rattle.rules.specs.OwnHearing.{hearsItself}
 use Rattle.rules.specs.Serving.{waiting}
@@ -27,7 +28,7 @@ use Rattle.channel_rules.specs.ChannelCalls.{feedbackHeard, channelCall,
 use Rattle.rules.specs.declared.Answer.{Answer}
 use Rattle.rules.specs.declared.Answer.the-variants.{Refused, Taken, Set, Went}
 use Rattle.rules.specs.Calls.{Start, index, Call, Offer, Slot, Calendar}
-use Rattle.rules.specs.Messages.{Message, Segment, segmentsFrom, deliveredFor}
+use Rattle.rules.specs.Messages.{Message, Segment, segmentsFrom, shortRecord, longRecord, recordOf, deliveredFor}
 use Rattle.rules.specs.Plain.{Plain, plainStart, plainAfter, plainAnswers, slotSum, waits}
 use Rattle.rules.specs.Positions.{conditionOf}
 
@@ -105,18 +106,24 @@ pub record CountersShow (S : Start) (p : Plain) (s : Station) : Type 0 where
   pub calendar : s .counters .calendar ≡ p .calendar
   pub position : s .counters .position ≡ p .slots % 24
 
--- of a message taken: the slots delivered are its first ones, each once and in order, and the rest wait in its station
+-- where a message's record stands: its station's short one if it has one slot, else the long one
+abbrev pub holderOf : Channel → Message → Condition
+holderOf ch m =
+    let s = stationAt (ch .stations) (m .station) in
+    cond (eqb (m .slots) 1) (s .short .condition) (s .long .condition)
+
+-- of a message taken: the slots delivered are its first ones, each once and in order, and the rest wait in its record
 pub record MessageShows (p : Plain) (ch : Channel) (m : Message) : Type 0 where
   pub delivered : ℕ
   pub most : delivered ≤ m .slots
   pub order : deliveredFor (m .serial) (p .history) ≡ segmentsFrom m delivered 1
-  pub rest : delivered < m .slots → waiting (stationAt (ch .stations) (m .station) .condition) ≡ m .slots - delivered
+  pub rest : delivered < m .slots → waiting (holderOf ch m) ≡ m .slots - delivered
 
--- a message of station k is not all delivered: one of those taken, from 0
+-- a message of record k, which is one of a station and a kind, is not all delivered: one of those taken, from 0
 pub record NotAllDelivered (p : Plain) (k : ℕ) : Type 0 where
   pub which : ℕ
   pub taken : which < length (p .taken)
-  pub own : messageAt p which .station ≡ k
+  pub own : recordOf (messageAt p which) ≡ k
   pub left : length (deliveredFor (messageAt p which .serial) (p .history)) < messageAt p which .slots
 
 -- ---- THE CLAIM
@@ -130,10 +137,11 @@ pub record Demand3 (S : Start) (begun : Channel) (calls : List Call) (ch : Chann
   -- so all stations have equal counters
   pub equal : (i k : ℕ) → i < length (S .indexes) → k < length (S .indexes)
       → stationAt (ch .stations) i .counters ≡ stationAt (ch .stations) k .counters
-  -- each station's condition is its message's: fresh, asked, or its position in its queue; free if none waits
-  pub condition : (k : ℕ) → k < length (S .indexes) → stationAt (ch .stations) k .condition ≡ conditionOf S p k
-  -- a stretch: its segments there, one by one
-  pub stretch : (k f l t i : ℕ) → k < length (S .indexes) → stationAt (ch .stations) k .condition ≡ Long f l t → i < l
+  -- the condition of each of a station's two records is its message's: fresh, asked, or its position in its queue; free if none waits
+  pub short : (k : ℕ) → k < length (S .indexes) → stationAt (ch .stations) k .short .condition ≡ conditionOf S p (shortRecord k)
+  pub long : (k : ℕ) → k < length (S .indexes) → stationAt (ch .stations) k .long .condition ≡ conditionOf S p (longRecord k)
+  -- a stretch, which only a long record has: its segments there, one by one
+  pub stretch : (k f l t i : ℕ) → k < length (S .indexes) → stationAt (ch .stations) k .long .condition ≡ Long f l t → i < l
       → (segmentAt p (f + i) .message .station ≡ k) × (segmentAt p (f + i) .number ≡ t - l + 1 + i)
   -- each wire minislot is the OR over the messages asking there
   pub wire : (g j : ℕ) → 1 ≤ g → g ≤ 8 → 1 ≤ j → j ≤ 8
@@ -147,22 +155,23 @@ pub record Demand3 (S : Start) (begun : Channel) (calls : List Call) (ch : Chann
   -- for in the next slot too each station hears itself as it must
   pub hears : (k : ℕ) → k < length (S .indexes)
       → hearsItself (stationAt (ch .stations) k) (wordsOf (heardRow ch)) (feedbackHeard ch) ≡ true
-  -- every urgent place has one station; the long queue is divided without gap or overlap; every place in a resolution queue has two
-  -- stations or more
+  -- every urgent place has one message; the long queue is divided without gap or overlap; every place in a resolution queue has two
+  -- different stations or more
   pub sound : Sound (ch .stations) (ch .wire)
   -- of each slot that went through: an owned one has exactly one sender, its owner; of the others, outside open access exactly one sender
   -- if either transmission queue holds a place once its row is counted, else none
   pub senders : SenderRule begun calls
   -- every message taken is told apart from every other
   pub apart : (i : ℕ) → i < length (p .taken) → messageAt p i .serial ≡ i
-  -- of each message taken: its first slots delivered, each once and in order, the rest wait in its station
+  -- of each message taken: its first slots delivered, each once and in order, the rest wait in its record
   pub messages : (i : ℕ) → i < length (p .taken)
       → MessageShows p ch (messageAt p i)
-  -- the plain channel's test for 9, which goes by totals, says what the paper says: a message of that station is not all delivered
+  -- the plain channel's test for 9, which goes by totals, says what the paper says: a message of that station and kind is not all
+  -- delivered
   pub nine : (k : ℕ) → (waits p k ≡ true → NotAllDelivered p k) × (NotAllDelivered p k → waits p k ≡ true)
-  -- in total taken = delivered + waiting: delivered counted from the history, waiting from the stations' conditions
+  -- in total taken = delivered + waiting: delivered counted from the history, waiting from the conditions of both records of each station
   pub ledger : slotSum (p .taken)
-      ≡ length (p .history) + sumOf (λ (s : Station). waiting (s .condition)) (ch .stations)
+      ≡ length (p .history) + sumOf (λ (s : Station). waiting (s .short .condition) + waiting (s .long .condition)) (ch .stations)
   -- and the answers' own sums are these: all that the offers took, all that the slots delivered
   pub taken : sumOf takenIn (channelAnswers begun calls) ≡ slotSum (p .taken)
   pub delivered : sumOf deliveredIn (channelAnswers begun calls) ≡ length (p .history)

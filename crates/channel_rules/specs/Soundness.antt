@@ -1,5 +1,6 @@
--- A sound table (paper 01, "The channel"; paper 02, T-02), clause by clause, and their conjunction (refusal 18). The tests on places are
--- those of crate `places`. That each clause says what the paper's says, place by place, is shown in proofs/SoundMeans. Assumes nothing.
+-- A sound table (paper 01, "The channel"; paper 02, T-02 and T-04), clause by clause, and their conjunction (refusal 18). The tests on
+-- places are those of crate `places`. That each clause says what the paper's says, place by place, is shown in proofs/SoundMeans. Assumes
+-- nothing.
 use mathlib.Core.Bool.{Bool, true, false, not, _&&_, _||_, Bool·beq, cond}
 use mathlib.Core.List.{List, [], _∷_, map}
 use Prim.Native.Nat.{ℕ, suc}
@@ -27,9 +28,11 @@ use Rattle.rules.specs.StationCalls.{noStation}
 abbrev pub tableCounters : List Station → Counters
 tableCounters stations = getD stations 0 noStation .counters
 
--- the messages of a table: each station's own, with the station's index. All clauses on queues and wire go over them
+-- the message records of a table: each station's short one, then its long one, with the station's index. All clauses on queues and wire
+-- go over them
 abbrev pub messagesIn : Station → List TableMessage
-messagesIn s = record { index = s .index; condition = s .condition } ∷ []
+messagesIn s =
+    record { index = s .index; condition = s .short .condition } ∷ record { index = s .index; condition = s .long .condition } ∷ []
 
 abbrev pub messagesOf : List Station → List TableMessage
 messagesOf stations = gatherOf messagesIn stations
@@ -71,7 +74,7 @@ sameCounters a b =
 unfoldable pub countersShared : List Station → Bool
 countersShared stations = each (λ (s : Station). sameCounters (tableCounters stations) (s .counters)) stations
 
--- ---- each H place has exactly one station
+-- ---- each H place has exactly one message
 
 abbrev pub urgentPlace : Condition → List ℕ
 urgentPlace Free = []
@@ -103,7 +106,7 @@ longStretches messages = gatherOf (λ (m : TableMessage). longStretch (m .condit
 unfoldable pub longSound : List Station → Bool
 longSound stations = covered (longStretches (messagesOf stations)) (tableCounters stations .long)
 
--- ---- each place of each RQ has two stations or more
+-- ---- each place of each RQ has two messages or more: of different stations, since the two records of one never share a place
 
 abbrev pub resolvingPlace : ℕ → Condition → List ℕ
 resolvingPlace g Free = []
@@ -123,9 +126,9 @@ resolutionSoundAt stations g r = crowded (resolvingPlaces g (messagesOf stations
 unfoldable pub resolutionSound : List Station → Bool
 resolutionSound stations = everyFrom (λ i r. resolutionSoundAt stations (suc i) r) 0 (tableCounters stations .resolution)
 
--- ---- each wire minislot, of all groups and minislots, equals the OR over the stations asked there
+-- ---- each wire minislot, of all groups and minislots, equals the OR over the records asked there
 
--- the request of a station asked in minislot j of group g
+-- the request of a record asked in minislot j of group g
 abbrev pub askedRequest : ℕ → ℕ → ℕ → Condition → List Request
 askedRequest g j index Free = []
 askedRequest g j index (Fresh t) = []

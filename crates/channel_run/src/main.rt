@@ -8,10 +8,11 @@
 // has a call's arguments (a calendar's 24 entries); it is written, then the answer, then the table as the call left it. An owned turn has
 // the owner behind it. The indexes of a start come from the line `indexes` or `from` before it (after the last of them, each is one more
 // than the one before), and the picks of a slot from the line `picks`. Other lines alter the table and write nothing: `blank` (so many
-// records that stand for no station), `count` (another number of records lent), `station` (its place, index and condition, with the
-// counters of the line `counters` before it: m, n, the next group, H, N, eight RQ, eight Open marks; and the position and the calendar's
-// entries of the line `position` after that), `minislot` (group, minislot, word and count). `table` writes the table, `show` the position
-// and the owners of each of its records; `keep` keeps the table, and `again` comes back to the one that was kept.
+// records that stand for no station), `count` (another number of records lent), `station` (its place and index, the short message's
+// condition and the long one's, with the counters of the line `counters` before it: m, n, the next group, H, N, eight RQ, eight Open
+// marks; and the position and the calendar's entries of the line `position` after that), `minislot` (group, minislot, word and count).
+// `table` writes the table, `show` the position and the owners of each of its records; `keep` keeps the table, and `again` comes back to
+// the one that was kept.
 mod lines;
 
 use libc::STDIN_FILENO;
@@ -20,7 +21,6 @@ use lines::table_lines;
 use local_channel::LocalChannel;
 use rehearsing::blank;
 use rules::Counters;
-use rules::Station;
 use runs_cases::Group;
 use runs_cases::counts;
 use runs_cases::group_at;
@@ -30,11 +30,11 @@ use runs_cases::number8;
 use runs_cases::number16;
 use runs_cases::which;
 use runs_records::answer_line;
-use runs_records::condition_of;
 use runs_records::counters_at;
 use runs_records::counters_of;
 use runs_records::entries_of;
 use runs_records::start_line;
+use runs_records::station_of;
 use runs_tables::begun;
 use runs_tables::calendared;
 use runs_tables::least;
@@ -127,14 +127,6 @@ fn called(s: State, call: u64, head: Group) -> LocalChannel {
 
 // ---- the cases
 
-fn station_of(counters: Counters, line: &[u8], head: Group) -> Station {
-    Station {
-        counters,
-        index: number16(head, 2),
-        condition: condition_of(line, head.next),
-    }
-}
-
 // What is left after a line that gives something to the lines after it: 1 counters, 2 their position and calendar, 3 or 4 indexes, 5
 // picks.
 fn given(s: State, word: u64, line: &[u8], head: Group) -> State {
@@ -161,7 +153,10 @@ fn altered(
     match word {
         6 => blank(place),
         7 => with_count(c, place),
-        8 => with_station(c, place, station_of(counters, line, head)),
+        8 => {
+            let s = station_of(counters, number16(head, 2), line, head.next);
+            with_station(c, place, s)
+        }
         _ => {
             let j = number(head, 2) as usize;
             with_minislot(c, place, j, number16(head, 3), number8(head, 4))

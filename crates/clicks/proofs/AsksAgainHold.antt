@@ -1,15 +1,16 @@
--- A station at place 1 of a resolution queue asks in its pick and is asked there when its group returns, with the group's mark no; so its own Single there
--- is queued. The slots of the other groups leave an asked station and another group's mark alone. Assumes nothing.
+-- A message at place 1 of a resolution queue, its station's short one or long one, is asked for in the station's pick and is asked there when its group
+-- returns, with the group's mark no; so its own Single there is queued. The slots of the other groups leave an asked message and another group's mark alone.
+-- Assumes nothing.
 use mathlib.Core.Path.{_≡_, refl, sym, ap, subst, _∙_}
-use mathlib.Core.Bool.{Bool, true, false, cond, _&&_}
+use mathlib.Core.Bool.{Bool, true, false, cond, _&&_, and-false}
 use mathlib.Core.List.{List, [], _∷_}
 use mathlib.Core.Logic.{_≢_, inr, ⊎-elim}
 use mathlib.Core.Option.{Option, none, some as owned}
-use Prim.Native.Nat.{ℕ, suc, _+_, _-_, _<_, _≤_}
+use Prim.Native.Nat.{ℕ, zero, suc, _+_, _-_, _<_, _≤_}
 use native.Mathlib.Omega.{arith}
-use lib.Dec.{eqb, ltb}
+use lib.Dec.{eqb, ltb, leb}
 use lib.ListN.{length}
-use borrow.Author.Tests.{lt-ltb, ne-eqb}
+use borrow.Author.Tests.{lt-ltb, ne-eqb, eqb-true, eqb-false, leb-true}
 use Rattle.rules.specs.declared.Counters.{Counters}
 use Rattle.rules.specs.declared.Places.{Places}
 use Rattle.rules.specs.declared.Station.{Station}
@@ -21,23 +22,33 @@ use Rattle.rules.specs.declared.Turn.{Turn}
 use Rattle.rules.specs.declared.Turn.the-variants.{Owned as OwnedTurn, Urgent as UrgentTurn, Long as LongTurn, Resolve as ResolveTurn, Open as OpenTurn}
 use Rattle.rules.specs.Turns.{turnOf, isOpen}
 use Rattle.rules.specs.Falling.{fallen, following}
-use Rattle.rules.specs.declared.Condition.the-variants.{Asked, Resolving, Urgent, Long}
-use Rattle.rules.specs.StationLimits.{resolutionAt, isTotal, conditionWithin}
-use Rattle.rules.specs.Requesting.{waitsIn, requests, requested}
+use Rattle.rules.specs.declared.Acted.{Acted}
+use Rattle.rules.specs.declared.Condition.{Condition}
+use Rattle.rules.specs.declared.Condition.the-variants.{Free, Fresh, Asked, Resolving, Urgent, Long}
+use Rattle.rules.specs.Listening.{hasRow}
+use Rattle.rules.specs.StationLimits.{resolutionAt, isTotal, conditionWithin, stationWithin}
+use Rattle.rules.specs.StationCalls.{slotNumberOf}
+use Rattle.rules.specs.Stepping.{isFresh, requestMinislot, asker, sender, requestTotal}
+use Rattle.rules.specs.Requesting.{waitsIn, requests, requested, totalOf}
 use Rattle.rules.specs.Serving.{sends, moved}
 use Rattle.rules.specs.Numbers.{slotTold}
 use Rattle.rules.proofs.LimitLaws.{between-bounds, within-limits, station-in}
 use Rattle.rules.proofs.QueueingLaws.{row-grows}
-use Rattle.rules.proofs.Settled.{standsAlone, settledBy, stationAfter, wentBy}
+use Rattle.rules.proofs.ClauseLaws.{Placed, settle-is}
+use Rattle.rules.proofs.Parting.{no-true, standsIn, Parted, apart-parted, settle-parted}
+use Rattle.rules.proofs.RecordKinds.{resolving-one}
+use Rattle.rules.proofs.Refusals.{test-passed}
+use Rattle.rules.proofs.Settled.{standsAlone, settledBy, settledOf, requesting, conditionAfter, actedBy, besideBy, stationAfter, wentBy, acts-is}
+use Rattle.rules.proofs.Walking.{row-fits}
 use Rattle.rules.proofs.SlotStep.{and-both}
 use Rattle.rules.proofs.Views.{eqb-self}
 use Rattle.edges.specs.Changes.{markOf, afterSlot, Changes}
 use Rattle.edges.proofs.ChangesHold.{changes-within}
 use Rattle.edges.proofs.EdgesAnyHold.{shut}
-use Rattle.edges.proofs.GroupRounds.{NextAfter, following-in, one-fewer, other}
-use Rattle.clicks.specs.OwnClicks.{lengthsBefore}
-use Rattle.clicks.specs.AsksAgain.{HeardSlot, rowHeard, numberHearing, slotHearing, afterSlots, AllGo, lastPlaces, HearsItsSingle, Queued, AsksAgainHolds}
-use Rattle.clicks.proofs.HeardSlots.{Whole, whole-of, goes, settles}
+use Rattle.edges.proofs.GroupRounds.{NextAfter, following-in, one-fewer, other as other-group}
+use Rattle.clicks.specs.OwnClicks.{lengthsBefore, Which, ShortOne, LongOne, recordIn}
+use Rattle.clicks.specs.AsksAgain.{HeardSlot, rowHeard, numberHearing, slotHearing, other, sentBeside, afterSlots, AllGo, lastPlaces, HearsItsSingle, Queued, AsksAgainHolds}
+use Rattle.clicks.proofs.HeardSlots.{Whole, whole-of, goes, settles, within-of}
 
 -- ---- a place in the resolution queue: the turn is not open
 
@@ -67,21 +78,68 @@ asked-stays LongTurn h j t = refl
 asked-stays ResolveTurn h j t = refl
 asked-stays OpenTurn h j t = refl
 
+-- ---- a record after a slot: by itself, unless it is fresh
+
+-- what the long record does where it, or the short one, is not fresh
+module _ (s : Station) (x : HeardSlot) (a b : Condition) where
+  beside-alone : isFresh b ≡ false → besideBy (s .counters) (rowHeard x) (x .pick) a b ≡ actedBy (s .counters) (rowHeard x) (x .pick) b
+  unfolding besideBy
+  beside-alone e = rw (e, and-false (isFresh a))
+
+  short-not-fresh : isFresh a ≡ false → besideBy (s .counters) (rowHeard x) (x .pick) a b ≡ actedBy (s .counters) (rowHeard x) (x .pick) b
+  unfolding besideBy
+  short-not-fresh e = rw e
+
+module _ (s : Station) (x : HeardSlot) (z : numberHearing s x ≡ 0) where
+  record-after : (o : Which) → isFresh (recordIn o s) ≡ false → recordIn o (slotHearing s x .station) ≡ conditionAfter (s .counters) (rowHeard x) (x .pick) (recordIn o s)
+  unfolding stationAfter actedBy
+  record-after ShortOne e = ap (λ (r : StationSlot). r .station .short .condition) (goes s (x .words) (x .counts) (x .pick) z)
+  record-after LongOne e =
+      ap (λ (r : StationSlot). r .station .long .condition) (goes s (x .words) (x .counts) (x .pick) z)
+      ∙ ap (λ (y : Acted). y .condition) (beside-alone s x (s .short .condition) (s .long .condition) e)
+
 -- ---- the slot in which it asks
 
-module _ (s : Station) (t : ℕ) (x : HeardSlot) (first : s .condition ≡ Resolving (s .counters .next) 1 t) (z : numberHearing s x ≡ 0) where
+-- a condition within its limits stands at a place of its queue, and counts places from 1
+place-inside : (c : Counters) (g i : ℕ) (k : Condition) → conditionWithin c k ≡ true → standsIn g i k ≡ true → i ≤ resolutionAt c g
+unfolding conditionWithin
+place-inside c g i Free w e = absurd (no-true e)
+place-inside c g i (Fresh t) w e = absurd (no-true e)
+place-inside c g i (Asked h j t) w e = absurd (no-true e)
+place-inside c g i (Resolving h j t) w e =
+    let (p, q) = and-both (eqb h g) (eqb j i) e in
+    let at = and-both (between 1 h (c .groups)) (between 1 j (resolutionAt c h)) (and-both (between 1 h (c .groups) && between 1 j (resolutionAt c h)) (isTotal t) w .0) .1 in
+    subst (λ (n : ℕ). n ≤ resolutionAt c g) (eqb-true j i q) (subst (λ (n : ℕ). j ≤ resolutionAt c n) (eqb-true h g p) (between-bounds 1 j (resolutionAt c h) at .1))
+place-inside c g i (Urgent j) w e = absurd (no-true e)
+place-inside c g i (Long f l t) w e = absurd (no-true e)
+
+within-placed : (c : Counters) (k : Condition) → conditionWithin c k ≡ true → Placed k
+unfolding conditionWithin
+within-placed c Free w = tt
+within-placed c (Fresh t) w = tt
+within-placed c (Asked h j t) w =
+    between-bounds 1 j (c .minislots) (and-both (between 1 h (c .groups)) (between 1 j (c .minislots)) (and-both (between 1 h (c .groups) && between 1 j (c .minislots)) (isTotal t) w .0) .1) .0
+within-placed c (Resolving h j t) w =
+    between-bounds 1 j (resolutionAt c h)
+    (and-both (between 1 h (c .groups)) (between 1 j (resolutionAt c h)) (and-both (between 1 h (c .groups) && between 1 j (resolutionAt c h)) (isTotal t) w .0) .1) .0
+within-placed c (Urgent i) w = between-bounds 1 i (c .urgent) w .0
+within-placed c (Long f l t) w =
+    let (x, y) = and-both (between 2 t 255 && between 1 l t && leb 1 f) (leb (f + l) (c .long + 1)) w in
+    let (u, v) = and-both (between 2 t 255 && between 1 l t) (leb 1 f) x in
+    let (p, q) = and-both (between 2 t 255) (between 1 l t) u in
+    let (least, most) = between-bounds 1 l t q in
+    (leb-true 1 f v, least, most)
+
+module _ (o : Which) (s : Station) (t : ℕ) (x : HeardSlot) (first : recordIn o s ≡ Resolving (s .counters .next) 1 t) (z : numberHearing s x ≡ 0) where
   w : Whole s (x .words) (x .counts)
   w = whole-of s (x .words) (x .counts) (x .pick) z
 
   some : 1 ≤ placesAfter (s .counters) (rowHeard x) .resolution
   unfolding conditionWithin placesAfter
   some =
-      let c = rw first at (station-in s (w .within) .condition) in
-      let here = between-bounds 1 1 (resolutionAt (s .counters) (s .counters .next))
-      (and-both (between 1 (s .counters .next) (s .counters .groups)) (between 1 1 (resolutionAt (s .counters) (s .counters .next)))
-      (and-both (between 1 (s .counters .next) (s .counters .groups) && between 1 1 (resolutionAt (s .counters) (s .counters .next))) (isTotal t) c .0) .1) in
+      let here = place-inside (s .counters) (s .counters .next) 1 (recordIn o s) (within-of s (x .words) (x .counts) w o) (rw (first, eqb-self (s .counters .next))) in
       let grows = row-grows (immediateOf (s .counters) (rowHeard x)) (placesOf (s .counters)) (rowHeard x) .resolution in
-      omega (arith, here .1, grows)
+      omega (arith, here, grows)
 
   waits : waitsIn (placesAfter (s .counters) (rowHeard x) .resolution) (s .counters .next) (s .counters .next) ≡ true
   waits = rw (lt-ltb 0 (placesAfter (s .counters) (rowHeard x) .resolution) some, eqb-self (s .counters .next))
@@ -89,18 +147,151 @@ module _ (s : Station) (t : ℕ) (x : HeardSlot) (first : s .condition ≡ Resol
   went : slotHearing s x ≡ wentBy s (rowHeard x) (x .pick)
   went = goes s (x .words) (x .counts) (x .pick) z
 
-  asks-here : slotTold (slotHearing s x .answer) .values ≡ x .pick ∷ 0 ∷ []
-  unfolding settledBy requests
-  asks-here =
-      let quiet = silent-unless-open (turnOf (ownerOf (s .counters)) (placesAfter (s .counters) (rowHeard x))) (placesAfter (s .counters) (rowHeard x) .resolution) (s .counters .next) (s .counters .next) 1 t
-      (not-open (ownerOf (s .counters)) (placesAfter (s .counters) (rowHeard x)) some) in
-      ap (λ (r : StationSlot). slotTold (r .answer) .values) went ∙ rw (first, waits, quiet)
+  -- what it does by itself
+  abbrev does : Acted
+  does = actedBy (s .counters) (rowHeard x) (x .pick) (recordIn o s)
 
-  asked-after : slotHearing s x .station .condition ≡ Asked (s .counters .next) (x .pick) t
-  unfolding settledBy requested stationAfter
+  does-ask : does .minislot ≡ x .pick
+  unfolding actedBy settledBy requests
+  does-ask = rw (first, waits)
+
+  does-not-send : does .segment ≡ 0
+  unfolding actedBy settledBy
+  does-not-send =
+      rw first
+      (silent-unless-open (turnOf (ownerOf (s .counters)) (placesAfter (s .counters) (rowHeard x))) (placesAfter (s .counters) (rowHeard x) .resolution) (s .counters .next) (s .counters .next) 1 t
+      (not-open (ownerOf (s .counters)) (placesAfter (s .counters) (rowHeard x)) some))
+
+  does-stand : does .condition ≡ Asked (s .counters .next) (x .pick) t
+  unfolding actedBy settledBy requested
+  does-stand = rw (first, waits) (asked-stays (turnOf (ownerOf (s .counters)) (placesAfter (s .counters) (rowHeard x))) (s .counters .next) (x .pick) t)
+
+  picked : eqb (x .pick) 0 ≡ false
+  unfolding slotNumberOf
+  picked =
+      let (e18, after18) = test-passed (stationWithin s) 18 _ refl z in
+      let (e6, after6) = test-passed (hasRow (s .counters .minislots) (x .words) (x .counts)) 6 _ refl after18 in
+      let (e11, after11) = test-passed (between 1 (x .pick) (s .counters .minislots)) 11 _ refl after6 in
+      ne-eqb (x .pick) 0 (λ q. omega (arith, q, between-bounds 1 (x .pick) (s .counters .minislots) e11 .0))
+
+  asked-after : recordIn o (slotHearing s x .station) ≡ Asked (s .counters .next) (x .pick) t
+  unfolding settledBy requested
   asked-after =
-      ap (λ (r : StationSlot). r .station .condition) went
+      record-after s x z o (rw first)
       ∙ rw (first, waits) (asked-stays (turnOf (ownerOf (s .counters)) (placesAfter (s .counters) (rowHeard x))) (s .counters .next) (x .pick) t)
+
+  -- the other record by itself
+  abbrev beside : Acted
+  beside = actedBy (s .counters) (rowHeard x) (x .pick) (recordIn (other o) s)
+
+  beside-is : sentBeside o s x ≡ beside .segment
+  beside-is = ap (λ (y : Acted). y .segment) (acts-is (s .counters) (rowHeard x) (x .pick) (recordIn (other o) s) (row-fits s (x .words) (x .counts) (w .within) (w .row)))
+
+-- ---- the station in that slot: its request is that record's, its segment the other's
+
+-- where the long one asks again, the short one does not ask: no other of the station's stands at place 1, and none that is fresh asks
+module _ (s : Station) (t : ℕ) (x : HeardSlot) (first : s .long .condition ≡ Resolving (s .counters .next) 1 t) (z : numberHearing s x ≡ 0) where
+  settled-apart : Parted (settledOf (s .counters) (rowHeard x) (s .short .condition)) (settledOf (s .counters) (rowHeard x) (s .long .condition))
+  settled-apart =
+      let wh = w LongOne s t x first z in
+      let c = s .counters in
+      let b = immediateOf c (rowHeard x) in
+      rw (
+        settle-is b (c .next) (placesOf c) (rowHeard x) (s .short .condition) (within-placed c (s .short .condition) (within-of s (x .words) (x .counts) wh ShortOne)),
+        settle-is b (c .next) (placesOf c) (rowHeard x) (s .long .condition) (within-placed c (s .long .condition) (within-of s (x .words) (x .counts) wh LongOne)),
+      )
+      (settle-parted b (c .next) (rowHeard x) (placesOf c) (s .short .condition) (s .long .condition)
+      (λ i. place-inside c (c .next) i (s .short .condition) (within-of s (x .words) (x .counts) wh ShortOne)) (λ i. place-inside c (c .next) i (s .long .condition) (within-of s (x .words) (x .counts) wh LongOne))
+      (apart-parted (s .short .condition) (s .long .condition) (station-in s (wh .within) .records .apart)))
+
+  at-one : standsIn (s .counters .next) 1 (settledOf (s .counters) (rowHeard x) (s .long .condition)) ≡ true
+  unfolding settledBy
+  at-one = rw (first, eqb-self (s .counters .next))
+
+  short-silent : actedBy (s .counters) (rowHeard x) (x .pick) (s .short .condition) .minislot ≡ 0
+  unfolding actedBy
+  short-silent = go (requesting (s .counters) (rowHeard x) (s .short .condition)) refl
+    where
+      not-there : (r : ℕ) → 1 ≤ r → requests r (s .counters .next) (settledOf (s .counters) (rowHeard x) (s .short .condition)) ≡ true → ⊥
+      not-there zero lo e = omega arith
+      not-there (suc r) lo e = settled-apart .place (s .counters .next) 1 (resolving-one (s .counters .next) r (settledOf (s .counters) (rowHeard x) (s .short .condition)) e) at-one
+
+      go : (b : Bool) → requesting (s .counters) (rowHeard x) (s .short .condition) ≡ b → requestMinislot b (x .pick) ≡ 0
+      go true e = absurd (not-there (placesAfter (s .counters) (rowHeard x) .resolution) (some LongOne s t x first z) e)
+      go false e = refl
+
+-- of two records' acts: whose request and whose segment are the station's
+module _ (x y : Acted) where
+  first-asks : eqb (x .minislot) 0 ≡ false → asker x y ≡ x
+  first-asks e = rw e
+
+  second-asks : x .minislot ≡ 0 → asker x y ≡ y
+  second-asks e = go (eqb (x .minislot) 0) refl
+    where
+      go : (b : Bool) → eqb (x .minislot) 0 ≡ b → cond b y x ≡ y
+      go true w = refl
+      go false w = absurd (eqb-false (x .minislot) 0 w e)
+
+  first-silent : x .segment ≡ 0 → sender x y .segment ≡ y .segment
+  first-silent e = go (eqb (x .segment) 0) refl
+    where
+      go : (b : Bool) → eqb (x .segment) 0 ≡ b → (cond b y x) .segment ≡ y .segment
+      go true w = refl
+      go false w = absurd (eqb-false (x .segment) 0 w e)
+
+  second-silent : y .segment ≡ 0 → sender x y .segment ≡ x .segment
+  second-silent e = go (eqb (x .segment) 0) refl
+    where
+      go : (b : Bool) → eqb (x .segment) 0 ≡ b → (cond b y x) .segment ≡ x .segment
+      go true w = e ∙ sym (eqb-true (x .segment) 0 w)
+      go false w = refl
+
+values-are : (a b c d : ℕ) → a ≡ c → b ≡ d → _≡_ {A = List ℕ} (a ∷ b ∷ []) (c ∷ d ∷ [])
+values-are a b c d p q = rw (p, q)
+
+-- the request of a record that asks again carries its whole message
+carries-all : (z : Acted) (p g t : ℕ) → z .minislot ≡ p → eqb p 0 ≡ false → z .condition ≡ Asked g p t → requestTotal z ≡ t
+carries-all z p g t a n e = ap (λ (m : ℕ). cond (eqb m 0) 0 (totalOf (z .condition))) a ∙ ap (λ (b : Bool). cond b 0 (totalOf (z .condition))) n ∙ ap totalOf e
+
+asks-here : (o : Which) (s : Station) (t : ℕ) (x : HeardSlot) (first : recordIn o s ≡ Resolving (s .counters .next) 1 t) (z : numberHearing s x ≡ 0)
+    → (slotTold (slotHearing s x .answer) .values ≡ x .pick ∷ sentBeside o s x ∷ []) × (slotHearing s x .request ≡ t)
+asks-here ShortOne s t x first z =
+    let e = goes s (x .words) (x .counts) (x .pick) z in (
+      ap (λ (r : StationSlot). slotTold (r .answer) .values) e
+          ∙ values-are _ _ (x .pick) (sentBeside ShortOne s x) (ap (λ (a : Acted). a .minislot) (first-asks X Y asks) ∙ does-ask ShortOne s t x first z)
+          (first-silent X Y (does-not-send ShortOne s t x first z) ∙ ap (λ (a : Acted). a .segment) long-alone ∙ sym (beside-is ShortOne s t x first z)),
+      ap (λ (r : StationSlot). r .request) e ∙ ap requestTotal (first-asks X Y asks)
+          ∙ carries-all X (x .pick) (s .counters .next) t (does-ask ShortOne s t x first z) (picked ShortOne s t x first z) (does-stand ShortOne s t x first z),
+    )
+  where
+    X : Acted
+    X = actedBy (s .counters) (rowHeard x) (x .pick) (s .short .condition)
+
+    Y : Acted
+    Y = besideBy (s .counters) (rowHeard x) (x .pick) (s .short .condition) (s .long .condition)
+
+    asks : eqb (X .minislot) 0 ≡ false
+    asks = ap (λ (m : ℕ). eqb m 0) (does-ask ShortOne s t x first z) ∙ picked ShortOne s t x first z
+
+    long-alone : Y ≡ actedBy (s .counters) (rowHeard x) (x .pick) (s .long .condition)
+    long-alone = short-not-fresh s x (s .short .condition) (s .long .condition) (rw first)
+asks-here LongOne s t x first z =
+    let e = goes s (x .words) (x .counts) (x .pick) z in (
+      ap (λ (r : StationSlot). slotTold (r .answer) .values) e
+          ∙ values-are _ _ (x .pick) (sentBeside LongOne s x) (ap (λ (a : Acted). a .minislot) (second-asks X Y (short-silent s t x first z) ∙ long-alone) ∙ does-ask LongOne s t x first z)
+          (second-silent X Y (ap (λ (a : Acted). a .segment) long-alone ∙ does-not-send LongOne s t x first z) ∙ sym (beside-is LongOne s t x first z)),
+      ap (λ (r : StationSlot). r .request) e ∙ ap requestTotal (second-asks X Y (short-silent s t x first z) ∙ long-alone)
+          ∙ carries-all (does LongOne s t x first z) (x .pick) (s .counters .next) t (does-ask LongOne s t x first z) (picked LongOne s t x first z) (does-stand LongOne s t x first z),
+    )
+  where
+    X : Acted
+    X = actedBy (s .counters) (rowHeard x) (x .pick) (s .short .condition)
+
+    Y : Acted
+    Y = besideBy (s .counters) (rowHeard x) (x .pick) (s .short .condition) (s .long .condition)
+
+    long-alone : Y ≡ does LongOne s t x first z
+    long-alone = beside-alone s x (s .short .condition) (s .long .condition) (rw first)
 
 -- the counters after any slot that goes through
 module _ (s : Station) (x : HeardSlot) (z : numberHearing s x ≡ 0) where
@@ -113,19 +304,19 @@ module _ (s : Station) (x : HeardSlot) (z : numberHearing s x ≡ 0) where
 
 -- ---- the slots of the other groups
 
-module _ (n g j t : ℕ) (low : 1 ≤ g) (high : g ≤ n) where
+module _ (o : Which) (n g j t : ℕ) (low : 1 ≤ g) (high : g ≤ n) where
   -- asked in minislot j of group g, whose mark is no, and one of the n groups is next
   pub record Waits (s : Station) : Type 0 where
     pub groups : s .counters .groups ≡ n
     pub next : (1 ≤ s .counters .next) × (s .counters .next ≤ n)
-    pub asked : s .condition ≡ Asked g j t
+    pub asked : recordIn o s ≡ Asked g j t
     pub mark : markOf (s .counters) g ≡ false
 
-  asked-kept : (s : Station) (x : HeardSlot) → numberHearing s x ≡ 0 → s .condition ≡ Asked g j t → g ≢ s .counters .next
-      → slotHearing s x .station .condition ≡ Asked g j t
-  unfolding settledBy requested stationAfter
+  asked-kept : (s : Station) (x : HeardSlot) → numberHearing s x ≡ 0 → recordIn o s ≡ Asked g j t → g ≢ s .counters .next
+      → recordIn o (slotHearing s x .station) ≡ Asked g j t
+  unfolding settledBy requested
   asked-kept s x z e ne =
-      ap (λ (r : StationSlot). r .station .condition) (goes s (x .words) (x .counts) (x .pick) z)
+      record-after s x z o (rw e)
       ∙ rw (e, ne-eqb g (s .counters .next) ne) (asked-stays (turnOf (ownerOf (s .counters)) (placesAfter (s .counters) (rowHeard x))) g j t)
 
   groups-kept : (s : Station) (x : HeardSlot) → numberHearing s x ≡ 0 → slotHearing s x .station .counters .groups ≡ s .counters .groups
@@ -151,7 +342,7 @@ module _ (n g j t : ℕ) (low : 1 ≤ g) (high : g ≤ n) where
   others-pass [] s W few a go = (⊎-elim (λ q. omega arith) (λ q. absurd (omega (arith, W .next))) a, W)
   others-pass (x ∷ others) s W few a go =
       let z = go .0 in
-      let ne : g - 1 ≡ s .counters .next - 1 → ⊥ = other n g low high (s .counters .next) (length others) (W .next .0) few a in
+      let ne : g - 1 ≡ s .counters .next - 1 → ⊥ = other-group n g low high (s .counters .next) (length others) (W .next .0) few a in
       others-pass others (slotHearing s x .station)
       (record {
         groups = groups-kept s x z ∙ W .groups;
@@ -172,46 +363,47 @@ single-stands b p t e = rw e (go (eqb t 1))
     go true = refl
     go false = refl
 
-heard-alone : (s : Station) (t j : ℕ) (y : HeardSlot) → s .condition ≡ Asked (s .counters .next) j t → openedOf (s .counters) ≡ false
-    → HearsItsSingle s t j y → Queued s t j (rowHeard y)
+heard-alone : (o : Which) (s : Station) (t j : ℕ) (y : HeardSlot) → recordIn o s ≡ Asked (s .counters .next) j t → openedOf (s .counters) ≡ false
+    → HearsItsSingle s t j y → Queued o s t j (rowHeard y)
 unfolding settledBy
-heard-alone s t j y asked m h =
+heard-alone o s t j y asked m h =
     let no = shut (s .counters) (rowHeard y) m in
     record {
       no-success = no;
       stands =
-          settles s (y .words) (y .counts) (whole-of s (y .words) (y .counts) (y .pick) (h .through))
+          settles s (y .words) (y .counts) (whole-of s (y .words) (y .counts) (y .pick) (h .through)) o
           ∙ rw (asked, eqb-self (s .counters .next), h .single) (single-stands (immediateOf (s .counters) (rowHeard y)) (lengthsBefore (s .counters) (rowHeard y) j) t no);
     }
 
 pub asks-again : AsksAgainHolds
-asks-again s t x others R =
+asks-again o s t x others R =
     let z = R .through .0 in
     let n = s .counters .groups in
     let g = s .counters .next in
     let lim = within-limits (s .counters) (station-in s (whole-of s (x .words) (x .counts) (x .pick) z .within) .counters) in
     let low = lim .next .0 in
     let high = lim .next .1 in
-    let W : Waits n g (x .pick) t low high (slotHearing s x .station) =
+    let W : Waits o n g (x .pick) t low high (slotHearing s x .station) =
     record {
-      groups = groups-kept n g (x .pick) t low high s x z;
-      next = next-in n g (x .pick) t low high s x z refl high;
-      asked = asked-after s t x (R .first) z;
+      groups = groups-kept o n g (x .pick) t low high s x z;
+      next = next-in o n g (x .pick) t low high s x z refl high;
+      asked = asked-after o s t x (R .first) z;
       mark =
           ap (λ (c : Counters). markOf c g) (counters-after s x z) ∙ changed s x z .mark
-          ∙ not-open (ownerOf (s .counters)) (placesAfter (s .counters) (rowHeard x)) (some s t x (R .first) z);
+          ∙ not-open (ownerOf (s .counters)) (placesAfter (s .counters) (rowHeard x)) (some o s t x (R .first) z);
     } in
     let (e, last) =
-    others-pass n g (x .pick) t low high others (slotHearing s x .station) W (omega (arith, R .all))
-    (next-fewer n g (x .pick) t low high s x (length others) z refl high (inr (omega (arith, R .all)))) (R .through .1) in
+    others-pass o n g (x .pick) t low high others (slotHearing s x .station) W (omega (arith, R .all))
+    (next-fewer o n g (x .pick) t low high s x (length others) z refl high (inr (omega (arith, R .all)))) (R .through .1) in
     let m : openedOf (afterSlots s (x ∷ others) .counters) ≡ false =
     subst (λ (i : ℕ). markOf (afterSlots s (x ∷ others) .counters) i ≡ false) (sym e) (last .mark) in
-    let asked : afterSlots s (x ∷ others) .condition ≡ Asked (afterSlots s (x ∷ others) .counters .next) (x .pick) t =
+    let asked : recordIn o (afterSlots s (x ∷ others)) ≡ Asked (afterSlots s (x ∷ others) .counters .next) (x .pick) t =
     last .asked ∙ ap (λ (i : ℕ). Asked i (x .pick) t) (sym e) in
     record {
-      asks = asks-here s t x (R .first) z;
+      asks = asks-here o s t x (R .first) z .0;
+      carries = asks-here o s t x (R .first) z .1;
       returns = e;
       asked = last .asked;
       mark = m;
-      queued = λ y h. heard-alone (afterSlots s (x ∷ others)) t (x .pick) y asked m h;
+      queued = λ y h. heard-alone o (afterSlots s (x ∷ others)) t (x .pick) y asked m h;
     }

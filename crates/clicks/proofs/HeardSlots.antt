@@ -17,14 +17,15 @@ use Rattle.rules.specs.declared.Station.{Station}
 use Rattle.rules.specs.Limits.{between}
 use Rattle.rules.specs.Queueing.{placesOf, immediateOf, stepOneOf}
 use Rattle.rules.specs.Listening.{hasRow}
-use Rattle.rules.specs.StationLimits.{stationWithin}
+use Rattle.rules.specs.StationLimits.{conditionWithin, stationWithin}
+use Rattle.rules.proofs.LimitLaws.{station-in}
 use Rattle.rules.specs.Outcome.{outcomeBy}
 use Rattle.rules.specs.StationCalls.{slotNumberOf, slotOf}
 use Rattle.rules.proofs.Refusals.{test-passed, none-found}
 use Rattle.rules.proofs.Settled.{settledOf, settled-same, wentBy, step-is}
 use Rattle.rules.proofs.SlotStep.{and-both}
 use Rattle.rules.proofs.Walking.{row-fits}
-use Rattle.clicks.specs.OwnClicks.{wordAt, heardIn, settledHearing}
+use Rattle.clicks.specs.OwnClicks.{wordAt, heardIn, Which, ShortOne, LongOne, recordIn, settledHearing}
 
 -- a row of m minislots
 pub record Whole (s : Station) (words counts : List ℕ) : Type 0 where
@@ -60,9 +61,14 @@ module _ (s : Station) (words counts : List ℕ) where
         → readingOf (wordAt words j) (getD counts (j - 1) 0) ≡ Heard (getD (heardIn words counts) (j - 1) Empty)
     reads-at j lo hi = feedback-at words counts (j - 1) (w .read) (omega (arith, lengths)) (omega (arith, lengths))
 
-    -- step 1 by the station's own minislot
-    pub settles : settledHearing s (heardIn words counts) ≡ settledOf (s .counters) (heardIn words counts) (s .condition)
+    -- step 1 by the message's own minislot
+    pub settles : (o : Which) → settledHearing o s (heardIn words counts) ≡ settledOf (s .counters) (heardIn words counts) (recordIn o s)
     unfolding outcomeBy stepOneOf
-    settles =
-        settled-same (immediateOf (s .counters) (heardIn words counts)) (s .counters .next) (placesOf (s .counters)) (heardIn words counts) 8 (s .condition)
+    settles o =
+        settled-same (immediateOf (s .counters) (heardIn words counts)) (s .counters .next) (placesOf (s .counters)) (heardIn words counts) 8 (recordIn o s)
         (row-fits s words counts (w .within) (w .row))
+
+    -- each record within its limits
+    pub within-of : (o : Which) → conditionWithin (s .counters) (recordIn o s) ≡ true
+    within-of ShortOne = station-in s (w .within) .records .short
+    within-of LongOne = station-in s (w .within) .records .long

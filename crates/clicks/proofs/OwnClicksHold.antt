@@ -1,6 +1,6 @@
 -- Clicks in a station's own minislot: a click has too few ones to contain a pattern's six, so the test for 12 fails there; a word that contains a pattern's
 -- ones and is not the pattern has seven or more, so it reads as Collide; and each Collide of a row has a resolution place of its own. Assumes nothing.
-use mathlib.Core.Path.{_≡_, refl, sym, ap, _∙_}
+use mathlib.Core.Path.{_≡_, refl, sym, ap, subst, _∙_}
 use mathlib.Core.Bool.{Bool, true, false, cond, _&&_}
 use mathlib.Core.List.{List, [], _∷_}
 use mathlib.Core.Logic.{_≢_, by-cases}
@@ -10,7 +10,7 @@ use native.Mathlib.Decide.{decLt}
 use lib.Count.{ones}
 use lib.Dec.{eqb}
 use lib.ListN.{length, getD, take}
-use borrow.Author.Tests.{eqb-true, eqb-false}
+use borrow.Author.Tests.{eqb-true, eqb-false, ne-eqb}
 use Rattle.pattern.specs.Ones.{containsOnes}
 use Rattle.pattern.specs.Patterns.{wordOf}
 use Rattle.pattern.proofs.Ones.{contains-or, contains-ones, or-more}
@@ -27,9 +27,11 @@ use Rattle.rules.specs.declared.Places.{Places}
 use Rattle.rules.specs.declared.Station.{Station}
 use Rattle.rules.specs.Limits.{between}
 use Rattle.rules.specs.Queueing.{queued, queuedRow, placesOf, immediateOf}
-use Rattle.rules.specs.declared.Condition.the-variants.{Asked, Resolving}
+use Rattle.rules.specs.declared.Condition.{Condition}
+use Rattle.rules.specs.declared.Condition.the-variants.{Free, Fresh, Asked, Resolving, Urgent, Long}
 use Rattle.rules.specs.StationLimits.{isTotal, conditionWithin}
-use Rattle.rules.specs.OwnHearing.{hearsHere, hearsElsewhere, hearsItself}
+use Rattle.rules.specs.OwnHearing.{ownMinislot, hearsHere, hearsElsewhere, listens, hearsItself}
+use Rattle.rules.proofs.Parting.{asksIn, apart-parted}
 use Rattle.rules.specs.StationCalls.{refusedSlot, heardSlotNumberOf, slotNumberOf, slotOf}
 use Rattle.rules.proofs.LimitLaws.{between-bounds, station-in}
 use Rattle.rules.proofs.QueueingLaws.{row-grows}
@@ -39,8 +41,8 @@ use Rattle.rules.proofs.StationLaws.{hears-fails, hears-holds}
 use Rattle.rules.proofs.Views.{eqb-self}
 use Rattle.rows.proofs.Answers.{all-feedback}
 use Rattle.rows.proofs.Row.{readings-length}
-use Rattle.clicks.specs.OwnClicks.{wordAt, heardIn, lengthsBefore, settledHearing, Listens, OnTop, NowhereElse, OwnClicks}
-use Rattle.clicks.proofs.HeardSlots.{Whole, lengths, reads-at, settles}
+use Rattle.clicks.specs.OwnClicks.{wordAt, heardIn, lengthsBefore, Which, ShortOne, LongOne, recordIn, settledHearing, Listens, OnTop, NowhereElse, OwnClicks}
+use Rattle.clicks.proofs.HeardSlots.{Whole, lengths, reads-at, settles, within-of}
 
 -- what a minislot is heard as, from its reading
 heard-once : (r : Reading) (f g : Feedback) → r ≡ Heard f → r ≡ Heard g → f ≡ g
@@ -51,17 +53,41 @@ below-4096 : (word count : ℕ) (f : Feedback) → readingOf word count ≡ Hear
 below-4096 word count f e =
     by-cases (decLt word 4096) (λ h. h) (λ h. let no : Refused 1 ≡ Heard f = sym (reads-1 word count (omega arith)) ∙ e in let z : _≡_ {A = ℕ} 0 1 = cc in absurd (omega arith))
 
--- a station's own minislot is one of the row's
-own-in : (s : Station) (words counts : List ℕ) (j t : ℕ) → Whole s words counts → s .condition ≡ Asked (s .counters .next) j t
+-- a message's own minislot is one of the row's
+own-in : (o : Which) (s : Station) (words counts : List ℕ) (j t : ℕ) → Whole s words counts → recordIn o s ≡ Asked (s .counters .next) j t
     → (1 ≤ j) × (j ≤ s .counters .minislots)
 unfolding conditionWithin
-own-in s words counts j t w e =
-    let c = rw e at (station-in s (w .within) .condition) in
+own-in o s words counts j t w e =
+    let c = subst (λ (k : Condition). conditionWithin (s .counters) k ≡ true) e (within-of s words counts w o) in
     between-bounds 1 j (s .counters .minislots)
     (and-both (between 1 (s .counters .next) (s .counters .groups)) (between 1 j (s .counters .minislots))
     (and-both (between 1 (s .counters .next) (s .counters .groups) && between 1 j (s .counters .minislots)) (isTotal t) c .0) .1)
 
-whole : {s : Station} {words counts : List ℕ} {pick j t : ℕ} → Listens s words counts pick j t → Whole s words counts
+-- and the station listens for that message: the other one is not asked in the group
+not-listening : (g : ℕ) (k : Condition) → (asksIn g k ≡ true → ⊥) → ownMinislot g k ≡ 0
+not-listening g Free n = refl
+not-listening g (Fresh t) n = refl
+not-listening g (Asked h j t) n = go (eqb h g) n
+  where
+    go : (b : Bool) → (b ≡ true → ⊥) → cond b j 0 ≡ 0
+    go true n = absurd (n refl)
+    go false n = refl
+not-listening g (Resolving h i t) n = refl
+not-listening g (Urgent i) n = refl
+not-listening g (Long f l t) n = refl
+
+listens-is : (o : Which) (s : Station) (words counts : List ℕ) (j t : ℕ) → Whole s words counts → recordIn o s ≡ Asked (s .counters .next) j t
+    → listens (s .counters .next) s ≡ Asked (s .counters .next) j t
+listens-is ShortOne s words counts j t w e =
+    let (lo, hi) = own-in ShortOne s words counts j t w e in
+    rw (e, eqb-self (s .counters .next), ne-eqb j 0 (λ q. omega arith))
+listens-is LongOne s words counts j t w e =
+    let p = apart-parted (s .short .condition) (s .long .condition) (station-in s (w .within) .records .apart) in
+    let n : ownMinislot (s .counters .next) (s .short .condition) ≡ 0 =
+    not-listening (s .counters .next) (s .short .condition) (λ q. p .asked (s .counters .next) q (ap (asksIn (s .counters .next)) e ∙ eqb-self (s .counters .next))) in
+    rw n e
+
+whole : {o : Which} {s : Station} {words counts : List ℕ} {pick j t : ℕ} → Listens o s words counts pick j t → Whole s words counts
 whole l = record { within = l .within; row = l .row; read = l .read }
 
 -- ---- a click alone
@@ -73,25 +99,25 @@ few-ones word i h k = go (containsOnes word (wordOf i)) refl
     go true e = absurd (omega (arith, contains-ones 12 word (wordOf i) (pattern-below i h) e, pattern-ones i h, k .few))
     go false e = refl
 
-module _ (s : Station) (words counts : List ℕ) (j t : ℕ) (w : Whole s words counts) (asked : s .condition ≡ Asked (s .counters .next) j t) where
+module _ (o : Which) (s : Station) (words counts : List ℕ) (j t : ℕ) (w : Whole s words counts) (asked : recordIn o s ≡ Asked (s .counters .next) j t) where
   not-itself : Click (wordAt words j) → hearsItself s words (heardIn words counts) ≡ false
   unfolding hearsItself
   not-itself k =
-      let (lo, hi) = own-in s words counts j t w asked in
+      let (lo, hi) = own-in o s words counts j t w asked in
       let (lw, lc) = lengths s words counts w in
       let lr : length (heardIn words counts) ≡ length words = all-feedback words counts (w .read) ∙ readings-length words counts (omega arith) in
       let f : getD (heardIn words counts) (j - 1) Empty ≡ Collide =
       heard-once _ _ _ (reads-at s words counts w j lo hi) (reads-click (wordAt words j) (getD counts (j - 1) 0) (k .twelve) (k .some) (omega (arith, k .few))) in
       let few = few-ones (wordAt words j) (s .index) (omega (arith, station-in s (w .within) .index)) k in
       let at : 1 + (j - 1) ≡ j = omega arith in
-      rw (asked, eqb-self (s .counters .next))
+      rw (listens-is o s words counts j t w asked, eqb-self (s .counters .next))
       (hears-fails (s .index) j t 1 words (heardIn words counts) (j - 1) (omega arith) (omega arith) (rw (at, eqb-self j, f) few))
 
-click-is-12 : (s : Station) (words counts : List ℕ) (pick j t : ℕ) → Listens s words counts pick j t → Click (wordAt words j)
+click-is-12 : (o : Which) (s : Station) (words counts : List ℕ) (pick j t : ℕ) → Listens o s words counts pick j t → Click (wordAt words j)
     → slotOf s words counts pick ≡ refusedSlot s 12
 unfolding slotOf slotNumberOf heardSlotNumberOf
-click-is-12 s words counts pick j t l k =
-    rw (l .within, l .row, l .in-range, l .read, l .fits, not-itself s words counts j t (whole l) (l .asked) k)
+click-is-12 o s words counts pick j t l k =
+    rw (l .within, l .row, l .in-range, l .read, l .fits, not-itself o s words counts j t (whole l) (l .asked) k)
 
 -- ---- clicks on top of a pattern
 
@@ -105,10 +131,10 @@ on-top-reads i word count h small o =
     let more : ones word ≡ 6 → ⊥ = λ e. omega (arith, or-more 12 word (wordOf i) small (pattern-below i h) (e ∙ sym six) ne, same) in
     reads-collide word count small (by-cases (decLt 6 (ones word)) (λ x. x) (λ x. absurd (more (omega arith))))
 
-module _ (s : Station) (words counts : List ℕ) (pick j t : ℕ) (l : Listens s words counts pick j t) (o : OnTop (s .index) (wordAt words j)) where
+module _ (w : Which) (s : Station) (words counts : List ℕ) (pick j t : ℕ) (l : Listens w s words counts pick j t) (o : OnTop (s .index) (wordAt words j)) where
   collided : getD (heardIn words counts) (j - 1) Empty ≡ Collide
   collided =
-      let (lo, hi) = own-in s words counts j t (whole l) (l .asked) in
+      let (lo, hi) = own-in w s words counts j t (whole l) (l .asked) in
       let read = reads-at s words counts (whole l) j lo hi in
       let small : wordAt words j < 4096 = below-4096 (wordAt words j) (getD counts (j - 1) 0) _ read in
       heard-once _ _ _ read (on-top-reads (s .index) (wordAt words j) (getD counts (j - 1) 0) (omega (arith, station-in s (l .within) .index)) small o)
@@ -116,7 +142,7 @@ module _ (s : Station) (words counts : List ℕ) (pick j t : ℕ) (l : Listens s
   itself : NowhereElse s (heardIn words counts) j → hearsItself s words (heardIn words counts) ≡ true
   unfolding hearsItself
   itself n =
-      rw (l .asked, eqb-self (s .counters .next))
+      rw (listens-is w s words counts j t (whole l) (l .asked), eqb-self (s .counters .next))
       (hears-holds (s .index) j t 1 words (heardIn words counts) (λ k hw hr. at k (omega (arith, lengths s words counts (whole l))) (eqb (1 + k) j) refl))
     where
       at : (k : ℕ) → k < s .counters .minislots → (b : Bool) → eqb (1 + k) j ≡ b
@@ -133,9 +159,9 @@ module _ (s : Station) (words counts : List ℕ) (pick j t : ℕ) (l : Listens s
   unfolding slotNumberOf heardSlotNumberOf
   goes-through n = rw (l .within, l .row, l .in-range, l .read, l .fits, itself n)
 
-  goes-to-resolve : settledHearing s (heardIn words counts) ≡ Resolving (s .counters .next) (lengthsBefore (s .counters) (heardIn words counts) j .resolution + 1) t
+  goes-to-resolve : settledHearing w s (heardIn words counts) ≡ Resolving (s .counters .next) (lengthsBefore (s .counters) (heardIn words counts) j .resolution + 1) t
   unfolding settledBy
-  goes-to-resolve = settles s words counts (whole l) ∙ rw (l .asked, eqb-self (s .counters .next), collided)
+  goes-to-resolve = settles s words counts (whole l) w ∙ rw (l .asked, eqb-self (s .counters .next), collided)
 
 -- ---- each Collide has a place of its own
 

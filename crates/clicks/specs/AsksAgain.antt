@@ -1,6 +1,6 @@
 -- A lone one asks again and is queued if heard alone (paper 02, T-01). On a listener or a station a resolution place may be one station's,
--- or nobody's. What is said here is said of every station at place 1 of a resolution queue, so of one that is alone there too. Assumes
--- nothing.
+-- or nobody's. What is said here is said of every message record, a station's short one or its long one (T-04), at place 1 of a resolution
+-- queue, so of one that is alone there too. Assumes nothing.
 use mathlib.Core.Path.{_≡_}
 use mathlib.Core.Bool.{false, cond}
 use mathlib.Core.List.{List, [], _∷_}
@@ -17,7 +17,9 @@ use Rattle.rules.specs.declared.Condition.{Condition}
 use Rattle.rules.specs.declared.Condition.the-variants.{Asked, Resolving, Urgent, Long}
 use Rattle.rules.specs.StationCalls.{slotNumberOf, slotOf}
 use Rattle.rules.specs.Numbers.{slotTold}
-use Rattle.clicks.specs.OwnClicks.{heardIn, lengthsBefore, settledHearing}
+use Rattle.rules.specs.Outcome.{outcomeOf}
+use Rattle.rules.specs.Stepping.{actsOf}
+use Rattle.clicks.specs.OwnClicks.{heardIn, lengthsBefore, Which, ShortOne, LongOne, recordIn, settledHearing}
 
 -- a row that a station hears, and its pick in that slot
 pub record HeardSlot : Type 0 where
@@ -43,10 +45,18 @@ abbrev pub AllGo : Station → List HeardSlot → Type 0
 AllGo s [] = Unit {0}
 AllGo s (x ∷ l) = (numberHearing s x ≡ 0) × AllGo (slotHearing s x .station) l
 
--- a station at place 1 of the resolution queue of the group whose slot is next: that slot, then one slot of each other group, and all of
+-- the station's other record, and the segment of its message that the slot sends, 0 for none
+abbrev pub other : Which → Which
+other ShortOne = LongOne
+other LongOne = ShortOne
+
+abbrev pub sentBeside : Which → Station → HeardSlot → ℕ
+sentBeside w s x = actsOf (outcomeOf (s .counters) (rowHeard x)) (recordIn (other w) s) (x .pick) .segment
+
+-- a message at place 1 of the resolution queue of the group whose slot is next: that slot, then one slot of each other group, and all of
 -- them go through
-pub record Round (s : Station) (t : ℕ) (x : HeardSlot) (others : List HeardSlot) : Type 0 where
-  pub first : s .condition ≡ Resolving (s .counters .next) 1 t
+pub record Round (w : Which) (s : Station) (t : ℕ) (x : HeardSlot) (others : List HeardSlot) : Type 0 where
+  pub first : recordIn w s ≡ Resolving (s .counters .next) 1 t
   pub all : length (x ∷ others) ≡ s .counters .groups
   pub through : AllGo s (x ∷ others)
 
@@ -60,21 +70,23 @@ pub record HearsItsSingle (s : Station) (t j : ℕ) (y : HeardSlot) : Type 0 whe
   pub single : getD (rowHeard y) (j - 1) Empty ≡ Single (s .index) t
 
 -- it stands in the urgent or the long queue by its count, and is no immediate success
-pub record Queued (s : Station) (t j : ℕ) (row : List Feedback) : Type 0 where
+pub record Queued (w : Which) (s : Station) (t j : ℕ) (row : List Feedback) : Type 0 where
   pub no-success : immediateOf (s .counters) row ≡ false
-  pub stands : settledHearing s row ≡ lastPlaces (lengthsBefore (s .counters) row j) t
+  pub stands : settledHearing w s row ≡ lastPlaces (lengthsBefore (s .counters) row j) t
 
-pub record AsksAgain (s : Station) (t : ℕ) (x : HeardSlot) (others : List HeardSlot) : Type 0 where
-  -- in that slot it requests in its pick, and sends no data
-  pub asks : slotTold (slotHearing s x .answer) .values ≡ x .pick ∷ 0 ∷ []
+pub record AsksAgain (w : Which) (s : Station) (t : ℕ) (x : HeardSlot) (others : List HeardSlot) : Type 0 where
+  -- in that slot it requests its whole message in its station's pick, and sends no data: what the station sends is the other record's
+  pub asks : slotTold (slotHearing s x .answer) .values ≡ x .pick ∷ sentBeside w s x ∷ []
+  pub carries : slotHearing s x .request ≡ t
   -- when its group returns it is asked there, with the whole message, and the group's mark is no
   pub returns : afterSlots s (x ∷ others) .counters .next ≡ s .counters .next
-  pub asked : afterSlots s (x ∷ others) .condition ≡ Asked (s .counters .next) (x .pick) t
+  pub asked : recordIn w (afterSlots s (x ∷ others)) ≡ Asked (s .counters .next) (x .pick) t
   pub mark : openedOf (afterSlots s (x ∷ others) .counters) ≡ false
   -- so, if it hears its own Single there, it is queued
   pub queued : (y : HeardSlot) → HearsItsSingle (afterSlots s (x ∷ others)) t (x .pick) y
-      → Queued (afterSlots s (x ∷ others)) t (x .pick) (rowHeard y)
+      → Queued w (afterSlots s (x ∷ others)) t (x .pick) (rowHeard y)
 
--- of every station, every row, pick and message
+-- of every station and either record, every row, pick and message
 abbrev pub AsksAgainHolds : Type 0
-AsksAgainHolds = (s : Station) (t : ℕ) (x : HeardSlot) (others : List HeardSlot) → Round s t x others → AsksAgain s t x others
+AsksAgainHolds = (w : Which) (s : Station) (t : ℕ) (x : HeardSlot) (others : List HeardSlot) → Round w s t x others
+    → AsksAgain w s t x others

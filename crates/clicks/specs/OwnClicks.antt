@@ -1,5 +1,5 @@
 -- Clicks in a station's own minislot (paper 02, T-01; paper 01, "The box": it must hear there a Single of its own, "or a Collide
--- containing all its ones"). Assumes nothing.
+-- containing all its ones"), whichever of its two message records asked there (T-04). Assumes nothing.
 use mathlib.Core.Path.{_≡_}
 use mathlib.Core.Bool.{true}
 use mathlib.Core.List.{List}
@@ -39,13 +39,22 @@ heardIn words counts = feedbacks (readings words counts)
 abbrev pub lengthsBefore : Counters → List Feedback → ℕ → Places
 lengthsBefore c row j = placesBefore (immediateOf c row) (placesOf c) row j
 
--- where a station stands after step 1 of a slot
-abbrev pub settledHearing : Station → List Feedback → Condition
-settledHearing s row = settledIn (outcomeOf (s .counters) row .landed) (s .counters .next) (s .condition)
+-- one of a station's two records, and the condition of its message
+pub data Which : Type 0 where
+  ShortOne : Which
+  LongOne : Which
+
+abbrev pub recordIn : Which → Station → Condition
+recordIn ShortOne s = s .short .condition
+recordIn LongOne s = s .long .condition
+
+-- where its message stands after step 1 of a slot
+abbrev pub settledHearing : Which → Station → List Feedback → Condition
+settledHearing w s row = settledIn (outcomeOf (s .counters) row .landed) (s .counters .next) (recordIn w s)
 
 -- a station that asked in minislot j of the slot's group hears a row that passes every check before 12
-pub record Listens (s : Station) (words counts : List ℕ) (pick j t : ℕ) : Type 0 where
-  pub asked : s .condition ≡ Asked (s .counters .next) j t
+pub record Listens (w : Which) (s : Station) (words counts : List ℕ) (pick j t : ℕ) : Type 0 where
+  pub asked : recordIn w s ≡ Asked (s .counters .next) j t
   pub within : stationWithin s ≡ true
   pub row : hasRow (s .counters .minislots) words counts ≡ true
   pub in-range : between 1 pick (s .counters .minislots) ≡ true
@@ -63,16 +72,16 @@ NowhereElse s row j = (k : ℕ) → 1 ≤ k → k ≤ s .counters .minislots →
 
 pub record OwnClicks : Type 0 where
   -- a click there, which can't contain all its ones: 12, and the record is as it was
-  pub click-alone : (s : Station) (words counts : List ℕ) (pick j t : ℕ) → Listens s words counts pick j t → Click (wordAt words j)
-      → slotOf s words counts pick ≡ refusedSlot s 12
+  pub click-alone : (w : Which) (s : Station) (words counts : List ℕ) (pick j t : ℕ) → Listens w s words counts pick j t
+      → Click (wordAt words j) → slotOf s words counts pick ≡ refusedSlot s 12
   -- a pattern's word with clicks on top is a Collide, whatever the count
   pub on-top : (i word count : ℕ) → i < 924 → word < 4096 → OnTop i word → readingOf word count ≡ Heard Collide
   -- its own word with clicks on top is what it must hear: the slot goes through
-  pub through : (s : Station) (words counts : List ℕ) (pick j t : ℕ) → Listens s words counts pick j t → OnTop (s .index) (wordAt words j)
-      → NowhereElse s (heardIn words counts) j → slotNumberOf s words counts pick ≡ 0
-  -- and the station goes to the new last place of its group's resolution queue
-  pub resolving : (s : Station) (words counts : List ℕ) (pick j t : ℕ) → Listens s words counts pick j t → OnTop (s .index) (wordAt words j)
-      → settledHearing s (heardIn words counts)
+  pub through : (w : Which) (s : Station) (words counts : List ℕ) (pick j t : ℕ) → Listens w s words counts pick j t
+      → OnTop (s .index) (wordAt words j) → NowhereElse s (heardIn words counts) j → slotNumberOf s words counts pick ≡ 0
+  -- and its message goes to the new last place of its group's resolution queue
+  pub resolving : (w : Which) (s : Station) (words counts : List ℕ) (pick j t : ℕ) → Listens w s words counts pick j t
+      → OnTop (s .index) (wordAt words j) → settledHearing w s (heardIn words counts)
       ≡ Resolving (s .counters .next) (lengthsBefore (s .counters) (heardIn words counts) j .resolution + 1) t
   -- where the newcomers of another minislot never stand: it is alone there if it was alone in its minislot
   pub alone : (c : Counters) (row : List Feedback) (j k : ℕ) → 1 ≤ j → 1 ≤ k → j ≢ k

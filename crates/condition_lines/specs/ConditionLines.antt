@@ -1,5 +1,5 @@
--- The line that `show` of `rehearse` prints of a station, by its index and the condition of its message. A line begins with the call's
--- number in the list. Bytes are numbers: letters are ASCII. Assumes nothing.
+-- The line that `show` of `rehearse` prints of a message record, by its station's index and the condition of its message. A line begins
+-- with the call's number in the list. Bytes are numbers: letters are ASCII. Assumes nothing.
 use mathlib.Core.List.{List, [], _∷_, map}
 use Prim.Native.Nat.{ℕ}
 use Rattle.decimals.specs.Decimal.{digitsOf}

@@ -1,12 +1,12 @@
-// The line that `show` of `rehearse` prints of a station, by the condition of its message, written into a buffer. A line that does not fit
-// is not written at all.
+// The line that `show` of `rehearse` prints of a message record, by its station's index and the condition of its message, written into a
+// buffer. A line that does not fit is not written at all.
 use forms::put_form;
 ghost use mathlib.Core.Path.{_≡_};
 ghost use Rattle.rules.specs.declared.Condition.the-variants.{Free, Fresh, Asked, Resolving, Urgent, Long};
 ghost use Rattle.decimals.specs.Putting.{putAt, placeAfter};
 ghost use Rattle.condition_lines.specs.ConditionLines.{conditionLine};
 
-// The line of a station with no message. Each of these gives the place after the line.
+// The line of a record with no message. Each of these gives the place after the line.
 pub fn put_free(out: &mut [u8], at: usize, call: u64, index: u16) -> usize
     ensures buffer { λ r. ⌜ now (out .exit) ≡ putAt (now (out .entry)) at (conditionLine call index Free) ⌝ }
     ensures reached { λ r. ⌜ r ≡ placeAfter (now (out .entry)) at (conditionLine call index Free) ⌝ }

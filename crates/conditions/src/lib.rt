@@ -1,15 +1,15 @@
 // The limits of a station's record, for the station and the channel. Each test is equal to its rule of crate `rules`.
-use counters::resolution_of;
+use condition_limits::condition_within;
+use record_limits::long_within;
+use record_limits::records_apart;
+use record_limits::short_within;
 use rules::Condition;
 use rules::Counters;
+use rules::MessageRecord;
 use rules::Station;
 ghost use mathlib.Core.Path.{_≡_};
-ghost use mathlib.Core.Bool.{_&&_};
-ghost use Prim.Native.Nat.{_+_};
-ghost use lib.Dec.{leb};
-ghost use Rattle.rules.specs.Limits.{between};
 ghost use Rattle.rules.specs.StationCalls.{noStation, isIndex};
-ghost use Rattle.rules.specs.StationLimits.{stationWithin, conditionWithin, isTotal};
+ghost use Rattle.rules.specs.StationLimits.{stationWithin, messagesWithin};
 
 // The greatest index of a station (paper 01, "The box").
 const INDEX_LIMIT: u16 = 923;
@@ -28,7 +28,12 @@ pub fn no_station() -> Station
     Station {
         counters: counters::none(),
         index: 0,
-        condition: Condition::Free,
+        short: MessageRecord {
+            condition: Condition::Free,
+        },
+        long: MessageRecord {
+            condition: Condition::Free,
+        },
     }
 }
 
@@ -37,80 +42,34 @@ pub fn within(s: Station) -> bool
     ensures { λ r. ⌜ r ≡ stationWithin s ⌝ }
 {
     let c = s.counters;
-    let k = s.condition;
+    let a = s.short;
+    let b = s.long;
+    let short = a.condition;
+    let long = b.condition;
     if counters::within(c) {
         if is_index(s.index) {
-            return condition_within(c, k);
+            return messages_within(c, short, long);
         }
         return false;
     }
     false
 }
 
-// Whether a condition is within its limits, by the counters that its station keeps.
-pub fn condition_within(c: Counters, k: Condition) -> bool
-    ensures { λ r. ⌜ r ≡ conditionWithin c k ⌝ }
+// Whether the conditions of a station's two records are within their limits, by the counters that it keeps.
+pub fn messages_within(c: Counters, short: Condition, long: Condition) -> bool
+    ensures { λ r. ⌜ r ≡ messagesWithin c short long ⌝ }
 {
-    match k {
-        Condition::Free => true,
-        Condition::Fresh { total } => 1 <= total,
-        Condition::Asked {
-            group,
-            minislot,
-            total,
-        } => grouped_within(c.groups, group, c.minislots as u16, minislot as u16, total),
-        Condition::Resolving {
-            group,
-            place,
-            total,
-        } => grouped_within(c.groups, group, resolution_of(c, group), place, total),
-        Condition::Urgent { place } => urgent_within(c.urgent, place),
-        Condition::Long { first, left, total } => long_within(c.long, first, left, total),
-    }
-}
-
-// A message of a group: the minislot that it asked in, or its place in the group's resolution queue, is one of so many.
-fn grouped_within(groups: u8, group: u8, places: u16, place: u16, total: u8) -> bool
-    ensures { λ r. ⌜ r ≡ between 1 group groups && between 1 place places && isTotal total ⌝ }
-{
-    if group < 1 {
+    if !condition_within(c, short) {
         return false;
     }
-    if groups < group {
+    if !short_within(short) {
         return false;
     }
-    if place < 1 {
+    if !condition_within(c, long) {
         return false;
     }
-    if places < place {
+    if !long_within(long) {
         return false;
     }
-    1 <= total
-}
-
-fn urgent_within(places: u16, place: u16) -> bool
-    ensures { λ r. ⌜ r ≡ between 1 place places ⌝ }
-{
-    if place < 1 {
-        return false;
-    }
-    place <= places
-}
-
-fn long_within(places: u16, first: u16, left: u8, total: u8) -> bool
-    ensures { λ r. ⌜ r ≡ between 2 total 255 && between 1 left total && leb 1 first && leb (first + left) (places + 1) ⌝ }
-{
-    if total < 2 {
-        return false;
-    }
-    if left < 1 {
-        return false;
-    }
-    if total < left {
-        return false;
-    }
-    if first < 1 {
-        return false;
-    }
-    (first as u32) + (left as u32) <= (places as u32) + 1
+    records_apart(short, long)
 }

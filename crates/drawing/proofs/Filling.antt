@@ -1,5 +1,5 @@
 -- An array that a loop over a list fills with what each element gives, one value or none: after i elements it holds what the first i give, with a
--- blank in the rest. What is drawn out so is the array's used part. And a table of more than 64 has 64. Assumes nothing.
+-- blank in the rest. What is drawn out so is the array's used part. And a count above an array's size takes the whole array. Assumes nothing.
 use mathlib.Core.Path.{_≡_, refl, sym, ap, _∙_}
 use mathlib.Core.Bool.{Bool, true, false}
 use mathlib.Core.List.{List, [], _∷_, _++_, map, append-nil, map-append}
@@ -15,41 +15,41 @@ use Rattle.listlaws.proofs.Padding.{pad-more, pad-used}
 use Rattle.drawing.specs.declared.DrawnPlaces.{DrawnPlaces}
 use Rattle.drawing.specs.Drawn.{drawnPlaces}
 
--- an array of 64 has no more elements than 64
-pub all-taken : {A : Type 0} (l : List A) → length l ≡ 64 → (count n : ℕ) → n ≡ min count 64 → take n l ≡ take count l
-all-taken l full count n e = rw e (take-most count 64 l full)
+-- an array has no more elements than its size
+pub all-taken : {A : Type 0} {size : ℕ} (l : List A) → length l ≡ size → (count n : ℕ) → n ≡ min count size → take n l ≡ take count l
+all-taken {size = size} l full count n e = rw e (take-most count size l full)
 
-pub record Filled {A B : Type 0} (f : A → List B) (d : B) (l : List A) (i n : ℕ) (a : List B) : Type 0 where
+pub record Filled {A B : Type 0} (size : ℕ) (f : A → List B) (d : B) (l : List A) (i n : ℕ) (a : List B) : Type 0 where
   pub most : n ≤ i
-  pub size : length a ≡ 64
+  pub full : length a ≡ size
   pub count : n ≡ length (gatherOf f (take i l))
-  pub array : a ≡ padded 64 d (gatherOf f (take i l))
+  pub array : a ≡ padded size d (gatherOf f (take i l))
 
-module _ {A B : Type 0} (f : A → List B) (d : B) where
-  pub filled-none : (l : List A) → Filled f d l 0 0 (replicate 64 d)
-  filled-none l = record { most = omega arith; size = length-replicate 64 d; count = refl; array = refl }
+module _ {A B : Type 0} {size : ℕ} (f : A → List B) (d : B) where
+  pub filled-none : (l : List A) → Filled size f d l 0 0 (replicate size d)
+  filled-none l = record { most = omega arith; full = length-replicate size d; count = refl; array = ap (λ (k : ℕ). replicate k d) (let e : size ≡ size - 0 = omega arith in e) }
 
-  module _ (l : List A) (i n : ℕ) (a : List B) (x : A) (s : Filled f d l i n a) (h : i < length l) (b : Bool) (v : B) (e : f (getD l i x) ≡ onlyIf b (v ∷ [])) where
+  module _ (l : List A) (i n : ℕ) (a : List B) (x : A) (s : Filled size f d l i n a) (h : i < length l) (b : Bool) (v : B) (e : f (getD l i x) ≡ onlyIf b (v ∷ [])) where
     -- nothing more
-    pub filled-same : b ≡ false → Filled f d l (i + 1) n a
+    pub filled-same : b ≡ false → Filled size f d l (i + 1) n a
     filled-same q =
-        record { most = omega (arith, s .most); size = s .size; count = s .count ∙ ap length w; array = s .array ∙ ap (padded 64 d) w }
+        record { most = omega (arith, s .most); full = s .full; count = s .count ∙ ap length w; array = s .array ∙ ap (padded size d) w }
       where
         w : gatherOf f (take i l) ≡ gatherOf f (take (i + 1) l)
         w = rw (add-one, gather-more f l i x h, e, q, append-nil)
 
     -- one more, stored behind the others
-    pub filled-one : b ≡ true → i < 64 → Filled f d l (i + 1) (n + 1) (set a n v)
+    pub filled-one : b ≡ true → i < size → Filled size f d l (i + 1) (n + 1) (set a n v)
     filled-one q k =
         record {
           most = omega (arith, s .most);
-          size = length-set a n v ∙ s .size;
+          full = length-set a n v ∙ s .full;
           count = rw w (sym (length-append (gatherOf f (take i l)) (v ∷ []) ∙ rw (← (s .count))));
           array =
               rw w
               (ap (λ (t : List B). set t n v) (s .array)
-              ∙ ap (λ (t : ℕ). set (padded 64 d (gatherOf f (take i l))) t v) (s .count)
-              ∙ pad-more 64 d (gatherOf f (take i l)) v (omega (arith, s .most, s .count)));
+              ∙ ap (λ (t : ℕ). set (padded size d (gatherOf f (take i l))) t v) (s .count)
+              ∙ pad-more size d (gatherOf f (take i l)) v (omega (arith, s .most, s .count)));
         }
       where
         w : gatherOf f (take (i + 1) l) ≡ gatherOf f (take i l) ++ (v ∷ [])
@@ -57,12 +57,12 @@ module _ {A B : Type 0} (f : A → List B) (d : B) where
 
 -- ---- what is drawn out is the used part
 
-module _ {B : Type 0} (d : B) (a : List B) (n : ℕ) (l : List B) (e : a ≡ padded 64 d l) (c : n ≡ length l) where
+module _ {B : Type 0} (size : ℕ) (d : B) (a : List B) (n : ℕ) (l : List B) (e : a ≡ padded size d l) (c : n ≡ length l) where
   pub used : take n a ≡ l
-  used = rw (e, c) (pad-used 64 d l)
+  used = rw (e, c) (pad-used size d l)
 
-  pub in-array : length a ≡ 64 → n ≤ 64
-  in-array h = omega (arith, c, h, ap length e, length-append l (replicate (64 - length l) d), length-replicate (64 - length l) d)
+  pub in-array : length a ≡ size → n ≤ size
+  in-array h = omega (arith, c, h, ap length e, length-append l (replicate (size - length l) d), length-replicate (size - length l) d)
 
 -- ---- no more values than elements
 
@@ -95,7 +95,7 @@ gather-map {C = C} g f (x ∷ l) = ap (λ (r : List C). map g (f x) ++ r) (gathe
 
 module _ (r : DrawnPlaces) (l : List ℕ) (e : r ≡ drawnPlaces l) where
   pub places-used : take (r .count) (r .list) ≡ l
-  places-used = used 0 (r .list) (r .count) l (ap (λ (x : DrawnPlaces). x .list) e) (ap (λ (x : DrawnPlaces). x .count) e)
+  places-used = used 128 0 (r .list) (r .count) l (ap (λ (x : DrawnPlaces). x .list) e) (ap (λ (x : DrawnPlaces). x .count) e)
 
-  pub places-in-array : length (r .list) ≡ 64 → r .count ≤ 64
-  places-in-array = in-array 0 (r .list) (r .count) l (ap (λ (x : DrawnPlaces). x .list) e) (ap (λ (x : DrawnPlaces). x .count) e)
+  pub places-in-array : length (r .list) ≡ 128 → r .count ≤ 128
+  places-in-array = in-array 128 0 (r .list) (r .count) l (ap (λ (x : DrawnPlaces). x .list) e) (ap (λ (x : DrawnPlaces). x .count) e)

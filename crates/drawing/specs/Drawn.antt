@@ -8,7 +8,7 @@ use Rattle.rules.specs.declared.Condition.the-variants.{Free}
 use Rattle.drawing.specs.declared.DrawnPlaces.{DrawnPlaces}
 
 abbrev pub drawnPlaces : List ℕ → DrawnPlaces
-drawnPlaces l = record { list = padded 64 0 l; count = length l }
+drawnPlaces l = record { list = padded 128 0 l; count = length l }
 
 abbrev pub noTableMessage : TableMessage
 noTableMessage = record { index = 0; condition = Free }

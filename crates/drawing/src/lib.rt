@@ -1,5 +1,5 @@
-// What the tests of a table draw out of it into arrays of 64: how far they go, the places that messages hold in a queue, and in proofs/ the
-// laws of an array that a loop fills.
+// What the tests of a table draw out of it into arrays, of 64 for its stations and of 128 for their messages: how far they go, the places
+// that messages hold in a queue, and in proofs/ the laws of an array that a loop fills.
 ghost use mathlib.Core.Path.{_≡_};
 ghost use Prim.Native.Nat.{min};
 
@@ -8,7 +8,7 @@ pub const MOST_GROUPS: usize = 8;
 
 // Places that messages hold in a queue: the first `count` of the list.
 pub struct DrawnPlaces {
-    pub list: [u16; 64],
+    pub list: [u16; 128],
     pub count: usize,
 }
 

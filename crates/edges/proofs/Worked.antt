@@ -1,12 +1,12 @@
 -- Worked channels, by hand-checked numbers: a list of calls on three stations in two groups, and every answer. The table's answers and the
 -- plain channel's are each computed. Shown: immediate success; two stations that collide, resolve and are served; a long message preempted by an urgent one;
--- a Collide beside a Single; every refusal that a sound channel can give but 7. And a list with calendars: owned slots beside a request, an urgent place and
--- an immediate success. Assumes nothing.
+-- a Collide beside a Single; every refusal that a sound channel can give but 7. A list with calendars: owned slots beside a request, an urgent place and an
+-- immediate success. And a list on both records of a station. Assumes nothing.
 use mathlib.Core.Path.{_≡_, refl, _∙_}
 use mathlib.Core.List.{List, [], _∷_}
 use Prim.Native.Nat.{ℕ}
 use lib.ListN.{replicate}
-use Rattle.message.specs.Message.{fitsMessage, slotsFor, ceiling}
+use Rattle.message.specs.Message.{fitsMessage, fitsShort, slotsFor, ceiling}
 use Rattle.rules.specs.declared.StartAnswer.the-variants.{Ready}
 use lib.Count.{ones, onesIn}
 use Rattle.pattern.specs.Patterns.{patterns, those, sixOnes, wordOf, indexOf, placeOf}
@@ -20,7 +20,8 @@ use Rattle.rules.specs.Queueing.{queuedRow, passes, immediateOf, placesAfter, s
 use Rattle.rules.specs.declared.Turn.the-variants.{Owned as OwnedTurn, Urgent as UrgentTurn, Long as LongTurn, Resolve as ResolveTurn, Open as OpenTurn}
 use Rattle.rules.specs.Turns.{turnOf}
 use Rattle.rules.specs.Falling.{fallen}
-use Rattle.rules.specs.StationLimits.{conditionWithin, stationWithin}
+use Rattle.rules.specs.Messages.{recordOf}
+use Rattle.rules.specs.StationLimits.{conditionWithin, shortWithin, longWithin, recordsApart, messagesWithin, stationWithin}
 use Rattle.rules.specs.OwnHearing.{hearsItself}
 use Rattle.rules.specs.Requesting.{requests, requested}
 use Rattle.rules.specs.Serving.{sends, moved}
@@ -34,7 +35,7 @@ use Rattle.rules.specs.Plain.{plainStart, plainAnswers}
 use Rattle.channel_rules.proofs.Theorem.{demand3}
 use Rattle.rules.specs.Landing.{landings}
 use Rattle.rules.specs.Outcome.{outcomeBy}
-use Rattle.rules.specs.Stepping.{settledIn, actsOf, stepOf}
+use Rattle.rules.specs.Stepping.{settledIn, actsOf, actsBeside, stepOf}
 
 -- a table of three stations, whatever they hold, started with two minislots, two groups and three indexes
 abbrev table : Channel
@@ -64,8 +65,8 @@ calls =
     ∷ Offer 923 1 ∷ slot 1 1 1 ∷ slot 1 1 1 ∷ slot 1 1 1 ∷ slot 1 1 1
     -- stations 1 and 2 collide beside station 3's Single: three send, none is delivered; then 3 is served, 1 and 2 resolve
     ∷ Offer 7 48 ∷ Offer 9 48 ∷ Offer 923 48 ∷ slot 1 1 2 ∷ slot 1 1 1 ∷ slot 1 2 1 ∷ slot 1 1 1 ∷ slot 1 1 1 ∷ slot 1 1 1 ∷ slot 1 1 1
-    -- refusals: a waiting message, no station of that index, 0 bytes, 12,241 bytes, two picks, a pick of 3, a pick of 0
-    ∷ Offer 7 12240 ∷ Offer 7 1 ∷ Offer 8 1 ∷ Offer 9 0 ∷ Offer 9 12241 ∷ Slot (1 ∷ 1 ∷ []) ∷ slot 1 3 1 ∷ slot 0 1 1
+    -- refusals: a waiting message of that kind, no station of that index, 0 bytes, 12,241 bytes, two picks, a pick of 3, a pick of 0
+    ∷ Offer 7 12240 ∷ Offer 7 49 ∷ Offer 8 1 ∷ Offer 9 0 ∷ Offer 9 12241 ∷ Slot (1 ∷ 1 ∷ []) ∷ slot 1 3 1 ∷ slot 0 1 1
     ∷ []
 
 abbrev answers : List Answer
@@ -79,13 +80,13 @@ answers =
 
 -- on the plain channel
 plain : plainAnswers start (plainStart start) calls ≡ answers
-unfolding fitsMessage slotsFor ceiling
+unfolding fitsMessage slotsFor ceiling recordOf
 plain = refl
 
 -- on the table and the wire: words, readings, soundness and all
 direct : channelAnswers (channelStartOf table 2 2 indexes .state) calls ≡ answers
-unfolding ones onesIn fitsMessage slotsFor ceiling patterns those sixOnes wordOf indexOf placeOf containsOnes readingOf readings firstNumber feedbacks weight
-    together groupsWithin entriesWithin someFree calendarWithin withinLimits queuedRow passes immediateOf placesAfter stepOneOf turnOf fallen conditionWithin stationWithin landings outcomeBy settledIn actsOf stepOf
+unfolding ones onesIn fitsMessage fitsShort slotsFor ceiling patterns those sixOnes wordOf indexOf placeOf containsOnes readingOf readings firstNumber feedbacks weight
+    together groupsWithin entriesWithin someFree calendarWithin withinLimits queuedRow passes immediateOf placesAfter stepOneOf turnOf fallen conditionWithin shortWithin longWithin recordsApart messagesWithin stationWithin landings outcomeBy settledIn actsOf actsBeside stepOf
     hearsItself requests requested sends moved heardSlotNumberOf slotNumberOf slotOf indexesDistinct recordsWithin sameCounters countersShared urgentSound longSound
     resolutionSound askedMinislot wireSound entriesOn ownersSound soundTable channelStartNumberOf channelStartOf channelOfferNumberOf channelOfferOf heardRow channelSlotNumberOf channelSlotOf
 direct = refl
@@ -127,13 +128,13 @@ stream-answers =
     ∷ []
 
 streams-plain : plainAnswers start (plainStart start) streams ≡ stream-answers
-unfolding fitsMessage slotsFor ceiling
+unfolding fitsMessage slotsFor ceiling recordOf
 streams-plain = refl
 
 streams-direct : channelAnswers (channelStartOf table 2 2 indexes .state) streams ≡ stream-answers
-unfolding ones onesIn fitsMessage slotsFor ceiling patterns those sixOnes wordOf indexOf placeOf containsOnes readingOf readings firstNumber feedbacks weight
-    together groupsWithin entriesWithin someFree calendarWithin withinLimits queuedRow passes immediateOf placesAfter stepOneOf turnOf fallen conditionWithin stationWithin landings outcomeBy
-    settledIn actsOf stepOf hearsItself requests requested sends moved heardSlotNumberOf slotNumberOf slotOf indexesDistinct recordsWithin sameCounters countersShared urgentSound longSound
+unfolding ones onesIn fitsMessage fitsShort slotsFor ceiling patterns those sixOnes wordOf indexOf placeOf containsOnes readingOf readings firstNumber feedbacks weight
+    together groupsWithin entriesWithin someFree calendarWithin withinLimits queuedRow passes immediateOf placesAfter stepOneOf turnOf fallen conditionWithin shortWithin longWithin recordsApart messagesWithin stationWithin landings
+    outcomeBy settledIn actsOf actsBeside stepOf hearsItself requests requested sends moved heardSlotNumberOf slotNumberOf slotOf indexesDistinct recordsWithin sameCounters countersShared urgentSound longSound
     resolutionSound askedMinislot wireSound entriesOn ownersSound soundTable channelStartNumberOf channelStartOf channelOfferNumberOf channelOfferOf heardRow channelSlotNumberOf channelSlotOf
     channelCalendarNumberOf channelCalendarOf
 streams-direct = refl
@@ -141,3 +142,46 @@ streams-direct = refl
 -- THE WORKED STREAMS: the table and the wire, and the plain channel
 pub worked-streams : (channelAnswers (channelStartOf table 2 2 indexes .state) streams ≡ stream-answers) × (plainAnswers start (plainStart start) streams ≡ stream-answers)
 worked-streams = (streams-direct, streams-plain)
+
+-- ---- BOTH RECORDS: the same three stations, a short and a long message of station 1 side by side
+
+abbrev pairs : List Call
+pairs =
+    -- of two fresh messages the short one asks and sends, in group 1; the long one stayed fresh and asks in group 2, so both are asked
+    Offer 7 100 ∷ Offer 7 48 ∷ slot 1 1 1 ∷ slot 2 1 1
+    -- the short one is delivered at once; the next one asks in group 2, where it collides with station 2's, while the long one is served
+    ∷ slot 1 1 1 ∷ Offer 7 1 ∷ Offer 9 1 ∷ slot 1 1 1 ∷ slot 1 1 1
+    -- it resolves while the long one's last slot is sent; then a long message asks in group 1
+    ∷ slot 1 2 1 ∷ Offer 7 96 ∷ slot 1 1 1
+    -- both short ones are urgent, and overtake the long one that waits in the long queue
+    ∷ slot 1 1 1 ∷ slot 1 1 1
+    -- a short one asks while the long one is served, and is queued behind nobody
+    ∷ Offer 7 1 ∷ slot 1 1 1 ∷ slot 1 1 1 ∷ slot 1 1 1
+    -- each record is in use, and 10 comes before 9
+    ∷ Offer 7 100 ∷ Offer 7 48 ∷ Offer 7 97 ∷ Offer 7 47 ∷ Offer 7 0 ∷ Offer 7 12241
+    ∷ []
+
+abbrev pair-answers : List Answer
+pair-answers =
+    Taken 3 ∷ Taken 1 ∷ Went OpenTurn 1 7 1 0 ∷ Went OpenTurn 0 0 0 0
+    ∷ Went OpenTurn 0 0 0 1 ∷ Taken 1 ∷ Taken 1 ∷ Went LongTurn 1 7 1 1 ∷ Went LongTurn 1 7 2 1
+    ∷ Went LongTurn 1 7 3 1 ∷ Taken 2 ∷ Went OpenTurn 0 0 0 0
+    ∷ Went UrgentTurn 1 7 1 1 ∷ Went UrgentTurn 1 9 1 1
+    ∷ Taken 1 ∷ Went LongTurn 1 7 1 1 ∷ Went LongTurn 1 7 2 1 ∷ Went UrgentTurn 1 7 1 1
+    ∷ Taken 3 ∷ Taken 1 ∷ Refused 9 ∷ Refused 9 ∷ Refused 10 ∷ Refused 10
+    ∷ []
+
+pairs-plain : plainAnswers start (plainStart start) pairs ≡ pair-answers
+unfolding fitsMessage slotsFor ceiling recordOf
+pairs-plain = refl
+
+pairs-direct : channelAnswers (channelStartOf table 2 2 indexes .state) pairs ≡ pair-answers
+unfolding ones onesIn fitsMessage fitsShort slotsFor ceiling patterns those sixOnes wordOf indexOf placeOf containsOnes readingOf readings firstNumber feedbacks weight
+    together groupsWithin entriesWithin someFree calendarWithin withinLimits queuedRow passes immediateOf placesAfter stepOneOf turnOf fallen conditionWithin shortWithin longWithin recordsApart messagesWithin stationWithin landings outcomeBy settledIn actsOf actsBeside stepOf
+    hearsItself requests requested sends moved heardSlotNumberOf slotNumberOf slotOf indexesDistinct recordsWithin sameCounters countersShared urgentSound longSound
+    resolutionSound askedMinislot wireSound entriesOn ownersSound soundTable channelStartNumberOf channelStartOf channelOfferNumberOf channelOfferOf heardRow channelSlotNumberOf channelSlotOf
+pairs-direct = refl
+
+-- THE WORKED PAIR: the table and the wire, and the plain channel
+pub worked-pair : (channelAnswers (channelStartOf table 2 2 indexes .state) pairs ≡ pair-answers) × (plainAnswers start (plainStart start) pairs ≡ pair-answers)
+worked-pair = (pairs-direct, pairs-plain)

@@ -12,12 +12,13 @@ ghost use Rattle.rules.specs.Hearing.{feedbackOf};
 ghost use Rattle.rules.specs.StationCalls.{heardSlotOf, refusedSlot};
 ghost use Rattle.heard_slot.specs.WholeRow.{WholeRow};
 
-// A refusal, which leaves the record as it was.
+// A refusal, which requests nothing and leaves the record as it was.
 pub fn refused_slot(s: Station, number: u8) -> StationSlot
     ensures { λ r. ⌜ r ≡ refusedSlot s number ⌝ }
 {
     StationSlot {
         answer: SlotAnswer::Refused(number),
+        request: 0,
         station: s,
     }
 }

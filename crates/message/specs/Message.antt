@@ -9,6 +9,13 @@ use Rattle.message.specs.declared.SlotTotal.the-variants.{Slots, Refused
 unfoldable pub fitsMessage : ℕ → Bool
 fitsMessage bytes = leb 1 bytes && leb bytes 12240
 
+-- a short message has 1 to 48 bytes, which one slot carries; a long one 49 to 12,240 (paper 02, T-04)
+unfoldable pub fitsShort : ℕ → Bool
+fitsShort bytes = leb 1 bytes && leb bytes 48
+
+unfoldable pub fitsLong : ℕ → Bool
+fitsLong bytes = leb 49 bytes && leb bytes 12240
+
 -- ⌈n ÷ d⌉: the quotient, and one more where something is left over
 unfoldable pub ceiling : ℕ → ℕ → ℕ
 ceiling n d = cond (eqb (n % d) 0) (n / d) (n / d + 1)

@@ -21,7 +21,7 @@ use Rattle.calls.proofs.ByValue.{few-true, array-length, array-first, array-at,
 pub record Passed (ch : Channel) (index bytes : ℕ) : Type 0 where
   pub some : hasStations (ch .stations) ≡ true
   pub known : positionOf index (ch .stations) < length (ch .stations)
-  pub takes : takingNumberOf (getD (ch .stations) (positionOf index (ch .stations)) noStation .condition) bytes ≡ 0
+  pub takes : takingNumberOf (getD (ch .stations) (positionOf index (ch .stations)) noStation) bytes ≡ 0
 
 module _ (ch : Channel) (index bytes : ℕ) where
   pub offer-passed : channelOfferNumberOf ch index bytes ≡ 0 → Passed ch index bytes
@@ -51,7 +51,7 @@ module _ (ch : Channel) (index bytes : ℕ) where
       offer-16 h = rw (some, sound, le-ltb (positionOf index (ch .stations)) (length (ch .stations)) h)
 
       pub offer-takes : positionOf index (ch .stations) < length (ch .stations)
-          → takingNumberOf (getD (ch .stations) (positionOf index (ch .stations)) noStation .condition) bytes ≡ channelOfferNumberOf ch index bytes
+          → takingNumberOf (getD (ch .stations) (positionOf index (ch .stations)) noStation) bytes ≡ channelOfferNumberOf ch index bytes
       unfolding channelOfferNumberOf
       offer-takes h = rw (some, sound, lt-ltb (positionOf index (ch .stations)) (length (ch .stations)) h)
 
@@ -78,10 +78,10 @@ module _ (stations : List Station) (n : ℕ) (wire : List WireRow) (index bytes 
             offer-16 (arrayChannel stations n wire) index bytes (array-some stations n full true ok) (array-sound stations n full most wire true sound)
             (omega (arith, array-length stations n full, found-is))
 
-        pub array-takes : k < n → takingNumberOf (getD stations k absent .condition) bytes ≡ channelOfferNumberOf (arrayChannel stations n wire) index bytes
+        pub array-takes : k < n → takingNumberOf (getD stations k absent) bytes ≡ channelOfferNumberOf (arrayChannel stations n wire) index bytes
         array-takes h =
-            ap (λ (s : Station). takingNumberOf (s .condition) bytes) (array-at stations n full most k h)
-            ∙ ap (λ (i : ℕ). takingNumberOf (getD (arrayTable stations n) i noStation .condition) bytes) found-is
+            ap (λ (s : Station). takingNumberOf s bytes) (array-at stations n full most k h)
+            ∙ ap (λ (i : ℕ). takingNumberOf (getD (arrayTable stations n) i noStation) bytes) found-is
             ∙ offer-takes (arrayChannel stations n wire) index bytes (array-some stations n full true ok) (array-sound stations n full most wire true sound)
             (omega (arith, array-length stations n full, found-is))
 
@@ -100,8 +100,8 @@ module _ (stations : List Station) (n : ℕ) (wire : List WireRow) (index bytes 
       pub passed-known : k < n
       passed-known = omega (arith, passed .known, array-length stations n full, passed-found)
 
-      pub passed-takes : takingNumberOf (getD stations k absent .condition) bytes ≡ 0
+      pub passed-takes : takingNumberOf (getD stations k absent) bytes ≡ 0
       passed-takes =
-          ap (λ (s : Station). takingNumberOf (s .condition) bytes) (array-at stations n full passed-most k passed-known)
-          ∙ ap (λ (i : ℕ). takingNumberOf (getD (arrayTable stations n) i noStation .condition) bytes) passed-found
+          ap (λ (s : Station). takingNumberOf s bytes) (array-at stations n full passed-most k passed-known)
+          ∙ ap (λ (i : ℕ). takingNumberOf (getD (arrayTable stations n) i noStation) bytes) passed-found
           ∙ passed .takes

@@ -9,7 +9,7 @@ ghost use mathlib.Core.Path.{_≡_};
 ghost use Rattle.channel_rules.specs.ChannelCalls.{channelOfferNumberOf};
 ghost use Rattle.calls.specs.ByValue.{arrayChannel};
 
-// The number of an offer on the first n of the records, 0 where it goes through: 14, 18, 16, 9, 10.
+// The number of an offer on the first n of the records, 0 where it goes through: 14, 18, 16, 10, 9.
 pub fn offer_number(
     stations: [Station; 64],
     n: usize,
@@ -30,7 +30,6 @@ pub fn offer_number(
         return 16;
     }
     let s = stations[k];
-    let condition = s.condition;
-    let taken = taking(condition, bytes);
+    let taken = taking(s, bytes);
     taken.number
 }

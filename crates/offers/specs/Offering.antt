@@ -1,4 +1,4 @@
--- What an offer on a channel comes to, by its number (paper 01, "Offering on a channel"). Assumes nothing.
+-- What an offer on a channel comes to, by its number (paper 01, "Offering on a channel"; paper 02, T-04). Assumes nothing.
 use mathlib.Core.List.{List}
 use Prim.Native.Nat.{ℕ}
 use lib.ListN.{getD}

@@ -19,7 +19,7 @@ ghost use Rattle.rules.specs.StationCalls.{takingNumberOf};
 ghost use Rattle.table.specs.Loading.{absent};
 ghost use Rattle.offers.specs.Offering.{takenOf, offeredOf};
 
-// Station k of the first n takes a message.
+// Station k of the first n takes a message, in the message record that its length picks.
 fn take_message(
     stations: [Station; 64],
     n: usize,
@@ -27,15 +27,14 @@ fn take_message(
     k: usize,
     bytes: usize,
 ) -> Decided
-    requires { ⌜ (k < 64) × (takingNumberOf (getD stations k absent .condition) bytes ≡ 0) ⌝ }
+    requires { ⌜ (k < 64) × (takingNumberOf (getD stations k absent) bytes ≡ 0) ⌝ }
     ensures { λ r. ⌜ r ≡ takenOf stations n wire k bytes ⌝ }
 {
     let s = stations[k];
-    let condition = s.condition;
-    let taken = taking(condition, bytes);
+    let taken = taking(s, bytes);
     let total = taken.total;
     let mut after = stations;
-    after[k] = with_condition(s, Condition::Fresh { total });
+    after[k] = with_condition(s, bytes, Condition::Fresh { total });
     Decided {
         loaded: hold(after, n),
         reply: CallReply {

@@ -9,11 +9,11 @@ use lib.ListN.{length, getD}
 use Rattle.minislot.specs.declared.Feedback.the-variants.{Empty}
 use Rattle.minislot.specs.declared.MinislotFeedback.{MinislotFeedback}
 use Rattle.rules.specs.declared.Station.{Station}
-use Rattle.rules.specs.OwnHearing.{ownMinislot, ownTotal, hearsAt, hearsItself}
+use Rattle.rules.specs.OwnHearing.{ownMinislot, ownTotal, listens, hearsAt, hearsItself}
 use Rattle.rules.proofs.StationLaws.{hears-fails, hears-holds}
 use Rattle.queueing.proofs.Rows.{blank, first, first-length, feedback-at}
 
-module _ (s : Station) (words : List ℕ) (row : List MinislotFeedback) (own total : ℕ) (mine : own ≡ ownMinislot (s .counters .next) (s .condition)) (slots : total ≡ ownTotal (s .condition)) where
+module _ (s : Station) (words : List ℕ) (row : List MinislotFeedback) (own total : ℕ) (mine : own ≡ ownMinislot (s .counters .next) (listens (s .counters .next) s)) (slots : total ≡ ownTotal (listens (s .counters .next) s)) where
   abbrev m : ℕ
   m = s .counters .minislots
 

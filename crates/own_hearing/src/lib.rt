@@ -7,9 +7,9 @@ ghost use mathlib.Core.Path.{_≡_};
 ghost use Prim.Native.Nat.{min};
 ghost use lib.ListN.{take};
 ghost use Rattle.rows.specs.Row.{feedbackIn};
-ghost use Rattle.rules.specs.OwnHearing.{ownMinislot, ownTotal, hearsItself};
+ghost use Rattle.rules.specs.OwnHearing.{ownMinislot, ownTotal, listens, hearsItself};
 
-// The minislot where a condition makes its station listen for itself in group g, 0 for none.
+// The minislot where a message makes its station listen for itself in group g, 0 for none.
 fn own_minislot(g: u8, k: Condition) -> u8
     ensures { λ r. ⌜ r ≡ ownMinislot g k ⌝ }
 {
@@ -41,6 +41,21 @@ fn own_total(k: Condition) -> u8
     }
 }
 
+// The message that a station listens for in group g: the short one where it is asked there, else the long one.
+fn listened(g: u8, s: Station) -> Condition
+    ensures { λ r. ⌜ r ≡ listens g s ⌝ }
+{
+    let a = s.short;
+    let b = s.long;
+    let short = a.condition;
+    let long = b.condition;
+    if own_minislot(g, short) == 0 {
+        long
+    } else {
+        short
+    }
+}
+
 // How many of m minislots are heard: those that have a word, and no more than a row holds.
 fn heard(m: u8, words: usize) -> u8
     ensures { λ r. ⌜ r ≡ min (min m words) 8 ⌝ }
@@ -56,7 +71,7 @@ fn heard(m: u8, words: usize) -> u8
 pub fn hears_itself(s: Station, words: &[u16], row: [MinislotFeedback; 8]) -> bool
     ensures { λ r. ⌜ r ≡ hearsItself s (now (words .entry)) (take (s .counters .minislots) (feedbackIn row)) ⌝ }
 {
-    let k = s.condition;
+    let k = listened(s.counters.next, s);
     let own = own_minislot(s.counters.next, k);
     let total = own_total(k);
     let end = heard(s.counters.minislots, words.len());

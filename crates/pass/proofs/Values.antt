@@ -22,4 +22,4 @@ abbrev pub sent : Kind
 sent = of-struct S.the-type S′.the-laws S′.the-plain S′.the-copy
 
 pub slot-station : (r : StationSlot) → Is (slot .R) r (vals slot r) → Is (station .R) (r .station) (vals station (r .station))
-slot-station r g = LL.owed L.the-type L′.the-laws r _ g .1 .0
+slot-station r g = LL.owed L.the-type L′.the-laws r _ g .1 .1 .0

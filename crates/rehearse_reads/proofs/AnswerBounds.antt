@@ -17,6 +17,7 @@ use Rattle.minislot.specs.declared.Minislot.{Minislot}
 use Rattle.minislot.specs.declared.Feedback.{Feedback}
 use Rattle.minislot.specs.declared.Feedback.the-variants.{Empty, Single, Collide}
 use Rattle.rows.specs.Row.{readings, feedbacks}
+use Rattle.rules.specs.declared.Acted.{Acted}
 use Rattle.rules.specs.declared.Answer.{Answer}
 use Rattle.rules.specs.declared.Answer.the-variants.{Refused, Taken, Set, Went}
 use Rattle.rules.specs.declared.Counters.{Counters}
@@ -30,7 +31,7 @@ use Rattle.rules.specs.declared.Condition.{Condition}
 use Rattle.rules.specs.declared.Condition.the-variants.{Free, Fresh, Asked, Resolving, Urgent, Long}
 use Rattle.rules.specs.Calls.{Call, Offer, Slot, Calendar}
 use Rattle.rules.specs.Calendars.{someFree}
-use Rattle.rules.specs.Refusing.{unless, byNumber}
+use Rattle.rules.specs.Refusing.{byNumber}
 use Rattle.rules.specs.Limits.{between}
 use Rattle.rules.specs.Hearing.{wordsOf, countsOf}
 use Rattle.rules.specs.declared.Landing.{Landing}
@@ -39,11 +40,11 @@ use Rattle.rules.specs.Landing.{at, stands}
 use Rattle.rules.specs.Requesting.{requests, totalOf}
 use Rattle.rules.specs.Serving.{sends}
 use Rattle.rules.specs.Outcome.{successes, outcomeBy, outcomeOf}
-use Rattle.rules.specs.Stepping.{settledIn, actsOf, stepOf}
+use Rattle.rules.specs.Stepping.{settledIn, isFresh, stays, actsOf, actsBeside, sender, stepOf}
 use Rattle.rules.specs.StationLimits.{stationWithin}
-use Rattle.rules.specs.StationCalls.{isFree, takingNumberOf, slotNumberOf, slotOf, refusedSlot}
+use Rattle.rules.specs.StationCalls.{isFree, recordFor, takingNumberOf, slotNumberOf, slotOf, refusedSlot}
 use Rattle.rules.specs.Queueing.{stepOneOf}
-use Rattle.rules.proofs.LimitLaws.{Within, within-limits, station-in}
+use Rattle.rules.proofs.LimitLaws.{Within, station-in}
 use Rattle.rules.proofs.Refusals.{test-passed}
 use Rattle.rules.proofs.Walking.{feedbacks-short}
 use Rattle.channel_rules.specs.Soundness.{soundTable, tableCounters, positionOf, isOnTable, entriesOn}
@@ -59,20 +60,20 @@ use Rattle.turn_letters.specs.Letters.{letterOf}
 use Rattle.answer_lines.specs.AnswerLines.{refusedWord, answerLine}
 use Rattle.rehearse_reads.specs.Bounds.{SoundChannel}
 use Rattle.rehearse_reads.proofs.LineBounds.{Held, AllHeld, line-within, number-short, numbers-short}
-use Rattle.rehearse_reads.proofs.StationBounds.{Small, small, resolution-most}
+use Rattle.rehearse_reads.proofs.StationBounds.{Small, small-both, resolution-most}
 use Rattle.rehearse_reads.proofs.ShowBounds.{counters-within}
 
 -- ---- numbers of refusal
 
-taking-low : (x : Condition) (bytes : ℕ) → takingNumberOf x bytes ≤ 19
-taking-low x bytes = unless-low (isFree x) 9 _ (omega arith) (unless-low (fitsMessage bytes) 10 0 (omega arith) (omega arith))
+taking-low : (s : Station) (bytes : ℕ) → takingNumberOf s bytes ≤ 19
+taking-low s bytes = unless-low (fitsMessage bytes) 10 _ (omega arith) (unless-low (isFree (recordFor s bytes)) 9 0 (omega arith) (omega arith))
 
 offer-low : (ch : Channel) (index bytes : ℕ) → channelOfferNumberOf ch index bytes ≤ 19
 unfolding channelOfferNumberOf
 offer-low ch index bytes =
     unless-low (hasStations (ch .stations)) 14 _ (omega arith)
     (unless-low (soundTable (ch .stations) (ch .wire)) 18 _ (omega arith)
-    (unless-low (isOnTable (ch .stations) index) 16 _ (omega arith) (taking-low (stationOf ch index .condition) bytes)))
+    (unless-low (isOnTable (ch .stations) index) 16 _ (omega arith) (taking-low (stationOf ch index) bytes)))
 
 slot-low : (ch : Channel) (picks : List ℕ) → channelSlotNumberOf ch picks ≤ 19
 unfolding channelSlotNumberOf
@@ -126,9 +127,8 @@ offer-held ch index bytes =
         let p₁ = test-passed (hasStations (ch .stations)) 14 _ refl z in
         let p₂ = test-passed (soundTable (ch .stations) (ch .wire)) 18 _ refl (p₁ .1) in
         let p₃ = test-passed (isOnTable (ch .stations) index) 16 _ refl (p₂ .1) in
-        let p₄ = test-passed (isFree (stationOf ch index .condition)) 9 _ refl (p₃ .1) in
-        let p₅ = test-passed (fitsMessage bytes) 10 0 refl (p₄ .1) in
-        slots-bounds bytes (p₅ .0) .1
+        let p₄ = test-passed (fitsMessage bytes) 10 _ refl (p₃ .1) in
+        slots-bounds bytes (p₄ .0) .1
 
 -- ---- a slot: what one station sends
 
@@ -203,14 +203,37 @@ lone (x ∷ y ∷ l) p = omega arith
 abbrev dataOf : StationSlot → List DataSent
 dataOf r = dataIn r (r .answer)
 
+-- what a record does, what the long one does beside the short one, and what is sent of the two
+module _ (o : Outcome) (pick : ℕ) where
+  acts-few : (x : Condition) → Small x → actsOf o x pick .segment ≤ 255
+  unfolding actsOf
+  acts-few x w =
+      sends-few (o .turn) (o .resolution) (o .group) (settledIn (o .landed) (o .group) x) (settled-few (o .landed) (o .group) x (small-total x w))
+
+  beside-few : (x y : Condition) → Small y → actsBeside o x y pick .segment ≤ 255
+  unfolding actsBeside
+  beside-few x y w = go (isFresh x && isFresh y)
+    where
+      go : (b : Bool) → cond b (stays y) (actsOf o y pick) .segment ≤ 255
+      go true = omega arith
+      go false = acts-few y w
+
+sender-few : (x y : Acted) → x .segment ≤ 255 → y .segment ≤ 255 → sender x y .segment ≤ 255
+sender-few x y p q = go (eqb (x .segment) 0)
+  where
+    go : (b : Bool) → cond b y x .segment ≤ 255
+    go true = q
+    go false = p
+
 step-sends : (o : Outcome) (s : Station) (pick : ℕ) → stationWithin s ≡ true → Few 1 (dataOf (stepOf o s pick))
-unfolding stepOf actsOf
+unfolding stepOf
 step-sends o s pick e =
-    let i = station-in s e in
-    let total = small-total (s .condition) (small (s .counters) (within-limits (s .counters) (i .counters)) (s .condition) (i .condition)) in
-    let stands = settledIn (o .landed) (o .group) (s .condition) in
-    let segment = sends (o .turn) (o .resolution) (o .group) stands in
-    only (speaks (o .turn) (s .index) segment) segment (i .index) (sends-few (o .turn) (o .resolution) (o .group) stands (settled-few (o .landed) (o .group) (s .condition) total))
+    let p = small-both s e in
+    let x = actsOf o (s .short .condition) pick in
+    let y = actsBeside o (s .short .condition) (s .long .condition) pick in
+    let segment = sender x y .segment in
+    only (speaks (o .turn) (s .index) segment) segment (station-in s e .index)
+    (sender-few x y (acts-few o pick (s .short .condition) (p .0)) (beside-few o pick (s .short .condition) (s .long .condition) (p .1)))
   where
     only : (b : Bool) (segment : ℕ) → s .index ≤ 923 → segment ≤ 255 → Few 1 (onlyIf b (record { index = s .index; segment = segment } ∷ []))
     only true segment l h = (omega arith, (l, h, tt))

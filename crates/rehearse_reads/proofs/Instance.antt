@@ -1,11 +1,11 @@
--- No record of `rehearse` prints more than 16,384 bytes, whatever it is, and its number stays in 64 bits: so `rehearse` is lawful, and what
+-- No record of `rehearse` prints more than 24,576 bytes, whatever it is, and its number stays in 64 bits: so `rehearse` is lawful, and what
 -- holds of any lawful program holds of it. A refusal's number is at most 19; of a channel that began with a start that went through the line of
--- a call has at most 233 bytes and all that is shown at most 14,318.
+-- a call has at most 233 bytes and all that is shown at most 23,854.
 -- Assumes nothing.
 use mathlib.Core.Bool.{Bool, true, false, cond, _&&_}
 use mathlib.Core.Path.{_≡_, refl, sym, ap, subst}
 use mathlib.Core.List.{List, [], _∷_, map, append-nil}
-use Prim.Native.Nat.{ℕ, _+_, _-_, _<_, _≤_}
+use Prim.Native.Nat.{ℕ, _-_, _<_, _≤_}
 use native.Mathlib.Omega.{arith}
 use borrow.Author.Tests.{ltb-true}
 use lib.Dec.{ltb, leb, eqb}
@@ -183,7 +183,7 @@ module _ (r : Rehearsal) (good : Good r) where
     show-fits =
         let c = r .channel in (
           (next-place (r .place) (good .0), λ z. b),
-          subst (λ (x : Counters). length (joined (showLines (r .place - 1) x (take (c .count) (c .stations)) (c .wire))) ≤ 16384) (sym (first-lent c b))
+          subst (λ (x : Counters). length (joined (showLines (r .place - 1) x (take (c .count) (c .stations)) (c .wire))) ≤ 24576) (sym (first-lent c b))
               (omega (arith, show-within (lentBy c) (begun-sound c b) (r .place - 1) (omega (arith, good .0)))),
         )
 

@@ -1,12 +1,12 @@
 -- How long lines can be: a line whose fields have at most 20 bytes each, as every number of 64 bits has, has at most 21 bytes for a field and
--- 2 more; lines that are each within a bound are together within so many times it. By induction on the fields, and on the lines.
+-- 2 more; lines, or runs of lines, that are each within a bound are together within so many times it. By induction on the fields, and on the lines.
 -- Assumes nothing.
 use mathlib.Core.Path.{_≡_}
 use mathlib.Core.List.{List, [], _∷_, _++_, map}
 use Prim.Native.Nat.{ℕ, zero, suc, _+_, _*_, _<_, _≤_}
 use native.Mathlib.Omega.{arith}
 use lib.ListN.{length, getD, length-append}
-use Rattle.listlaws.specs.Lists.{tabulate}
+use Rattle.listlaws.specs.Lists.{tabulate, gatherOf}
 use Rattle.decimals.specs.Decimal.{digitsOf}
 use Rattle.decimals.specs.Printing.{recordOf}
 use Rattle.decimals.proofs.Decimals.{digits-few}
@@ -47,11 +47,11 @@ joined-two [] b = omega arith
 joined-two (l ∷ a) b = omega (arith, length-append l (joined (a ++ b)), length-append l (joined a), joined-two a b)
 
 module _ (most : ℕ) where
-  pub mapped-within : {A : Type 0} (line : A → List ℕ) (d : A) (l : List A) → ((k : ℕ) → k < length l → length (line (getD l k d)) ≤ most)
-      → length (joined (map line l)) ≤ length l * most
-  mapped-within line d [] h = omega arith
-  mapped-within line d (x ∷ l) h =
-      omega (arith, length-append (line x) (joined (map line l)), h zero (omega arith), mapped-within line d l (λ k w. h (suc k) (omega arith)))
+  pub gathered-within : {A : Type 0} (lines : A → List (List ℕ)) (d : A) (l : List A) → ((k : ℕ) → k < length l → length (joined (lines (getD l k d))) ≤ most)
+      → length (joined (gatherOf lines l)) ≤ length l * most
+  gathered-within lines d [] h = omega arith
+  gathered-within lines d (x ∷ l) h =
+      omega (arith, joined-two (lines x) (gatherOf lines l), h zero (omega arith), gathered-within lines d l (λ k w. h (suc k) (omega arith)))
 
   pub tabulated-within : (n : ℕ) (line : ℕ → List ℕ) → ((i : ℕ) → i < n → length (line i) ≤ most)
       → length (joined (tabulate n line)) ≤ n * most

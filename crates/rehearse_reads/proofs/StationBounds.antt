@@ -1,15 +1,15 @@
 -- The numbers of counters and of a station's record that are within their limits are numbers of 64 bits: so the lines that `show` prints of
--- the counters, of a group and of a station's message have at most 149 bytes, and that of the owners at most 569.
+-- the counters and of a message record have at most 149 bytes, that of a group at most 107, and that of the owners at most 569.
 -- Assumes nothing.
 use mathlib.Core.Path.{_≡_, refl}
 use mathlib.Core.Bool.{Bool, true, false, cond, _&&_, _||_}
-use mathlib.Core.List.{List, [], _∷_, map}
+use mathlib.Core.List.{List, [], _∷_, _++_, map}
 use mathlib.Core.Logic.{by-cases}
 use Prim.Native.Nat.{ℕ, _+_, _-_, _≤_}
 use native.Mathlib.Omega.{arith}
 use native.Mathlib.Decide.{decLt}
 use lib.Dec.{leb, ltb, eqb}
-use lib.ListN.{length, getD, length-map, List·getD-eq-default}
+use lib.ListN.{length, getD, length-map, length-append, List·getD-eq-default}
 use borrow.Author.Tests.{leb-true, eqb-true}
 use Rattle.listlaws.specs.Every.{everyFrom}
 use Rattle.listlaws.specs.Lists.{each}
@@ -24,8 +24,9 @@ use Rattle.rules.specs.StationLimits.{isTotal, resolutionAt, conditionWithin, s
 use Rattle.rules.proofs.LimitLaws.{Within, within-limits, between-bounds, calendar-in, station-in}
 use Rattle.rules.proofs.SlotStep.{and-both}
 use Rattle.decimals.specs.Decimal.{digitsOf}
+use Rattle.programs.specs.Advancing.{joined}
 use Rattle.condition_lines.specs.ConditionLines.{messageWord, conditionFields, conditionLine}
-use Rattle.message_lines.specs.MessageLines.{messageLine}
+use Rattle.message_lines.specs.MessageLines.{messageLines}
 use Rattle.counter_lines.specs.CounterLines.{ownersWord, markWord, countersLine, ownersLine, groupLine}
 use Rattle.rehearse_reads.proofs.LineBounds.{Short, Held, AllHeld, line-within, number-short, numbers-short}
 
@@ -87,7 +88,7 @@ group-line k c g h w l =
     let r = number-short (getD (c .resolution) (g - 1) 0) (omega (arith, resolution-most c w (g - 1))) in
     line-within _ (omega (arith, number-short k h, number-short g (omega arith), r, mark-short (getD (c .opened) (g - 1) true)))
 
--- ---- a station's message
+-- ---- a station's messages
 
 total-most : (t : ℕ) → isTotal t ≡ true → t ≤ 255
 total-most t e = between-bounds 1 t 255 e .1
@@ -139,11 +140,32 @@ condition-fits (Resolving g i t) s = omega (arith, number-short g (omega (arith,
 condition-fits (Urgent i) s = omega (arith, number-short i (omega arith))
 condition-fits (Long f l t) s = omega (arith, number-short f (omega (arith, s)), number-short l (omega (arith, s)), number-short t (omega (arith, s)))
 
-pub message-line : (k : ℕ) (s : Station) → Held k → stationWithin s ≡ true → length (messageLine k s) ≤ 149
-unfolding messageLine conditionLine
-message-line k s h e =
-    let i = station-in s e in
-    let f = condition-fits (s .condition) (small (s .counters) (within-limits (s .counters) (i .counters)) (s .condition) (i .condition)) in
-    let l = line-within (digitsOf k ∷ messageWord ∷ digitsOf (s .index) ∷ conditionFields (s .condition))
-    (number-short k h, (omega arith, (number-short (s .index) (omega (arith, i .index)), f .1))) in
+condition-line : (k index : ℕ) (x : Condition) → Held k → index ≤ 923 → Small x → length (conditionLine k index x) ≤ 149
+unfolding conditionLine
+condition-line k index x h i s =
+    let f = condition-fits x s in
+    let l = line-within (digitsOf k ∷ messageWord ∷ digitsOf index ∷ conditionFields x)
+    (number-short k h, (omega arith, (number-short index (omega arith), f .1))) in
     omega (arith, l, f .0)
+
+-- the numbers of a station's two records
+pub small-both : (s : Station) → stationWithin s ≡ true → Small (s .short .condition) × Small (s .long .condition)
+small-both s e =
+    let i = station-in s e in
+    let w = within-limits (s .counters) (i .counters) in
+    (small (s .counters) w (s .short .condition) (i .records .short), small (s .counters) w (s .long .condition) (i .records .long))
+
+pub message-lines : (k : ℕ) (s : Station) → Held k → stationWithin s ≡ true → length (joined (messageLines k s)) ≤ 298
+unfolding messageLines
+message-lines k s h e =
+    let index = station-in s e .index in
+    let p = small-both s e in
+    let short = conditionLine k (s .index) (s .short .condition) in
+    let long = conditionLine k (s .index) (s .long .condition) in
+    omega (
+      arith,
+      length-append short (long ++ []),
+      length-append long [],
+      condition-line k (s .index) (s .short .condition) h index (p .0),
+      condition-line k (s .index) (s .long .condition) h index (p .1),
+    )

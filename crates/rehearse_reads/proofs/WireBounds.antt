@@ -1,4 +1,4 @@
--- What stands on the wire of a sound table: words of twelve bits and counts of eight, since each minislot is what the stations that asked there
+-- What stands on the wire of a sound table: words of twelve bits and counts of eight, since each minislot is what the records that asked there
 -- sent together, patterns and totals. So the line that `show` prints of a group's row has at most 401 bytes.
 -- Assumes nothing.
 use mathlib.Core.Path.{_≡_, sym, subst}
@@ -20,13 +20,13 @@ use Rattle.rules.specs.declared.WireRow.{WireRow}
 use Rattle.rules.specs.declared.Condition.{Condition}
 use Rattle.rules.specs.declared.Condition.the-variants.{Free, Fresh, Asked, Resolving, Urgent, Long}
 use Rattle.rules.specs.StationLimits.{stationWithin}
-use Rattle.rules.proofs.LimitLaws.{within-limits, station-in}
+use Rattle.rules.proofs.LimitLaws.{station-in}
 use Rattle.channel_rules.specs.Soundness.{messagesOf, askedRequest, askedRequests, askedMinislot}
 use Rattle.channel_rules.specs.SoundMeaning.{stationAt, Sound}
 use Rattle.channel_rules.specs.ChannelCalls.{blankRow}
 use Rattle.wire_lines.specs.WireLines.{wireWord, cells, wireLine}
 use Rattle.rehearse_reads.proofs.LineBounds.{Held, AllHeld, line-within, number-short, numbers-short}
-use Rattle.rehearse_reads.proofs.StationBounds.{Small, small}
+use Rattle.rehearse_reads.proofs.StationBounds.{Small, small-both}
 
 -- ---- what stations send together
 
@@ -55,24 +55,25 @@ only-sendable true r i t = (i, t, tt)
 only-sendable false r i t = tt
 
 module _ (g j : ℕ) where
-  asked-one : (s : Station) → stationWithin s ≡ true → Sendable (askedRequest g j (s .index) (s .condition))
-  asked-one s e =
-      let i = station-in s e in
-      go (s .condition) (small (s .counters) (within-limits (s .counters) (i .counters)) (s .condition) (i .condition)) (i .index)
-    where
-      go : (x : Condition) → Small x → s .index ≤ 923 → Sendable (askedRequest g j (s .index) x)
-      go Free w h = tt
-      go (Fresh t) w h = tt
-      go (Asked x y t) w h = only-sendable (eqb x g && eqb y j) (record { index = s .index; total = t }) (omega arith) (omega (arith, w))
-      go (Resolving x y t) w h = tt
-      go (Urgent y) w h = tt
-      go (Long x y t) w h = tt
+  asked-one : (index : ℕ) (x : Condition) → index ≤ 923 → Small x → Sendable (askedRequest g j index x)
+  asked-one index Free h w = tt
+  asked-one index (Fresh t) h w = tt
+  asked-one index (Asked x y t) h w = only-sendable (eqb x g && eqb y j) (record { index = index; total = t }) (omega arith) (omega (arith, w))
+  asked-one index (Resolving x y t) h w = tt
+  asked-one index (Urgent y) h w = tt
+  asked-one index (Long x y t) h w = tt
 
   asked-all : (l : List Station) → ((k : ℕ) → k < length l → stationWithin (stationAt l k) ≡ true) → Sendable (askedRequests g j (messagesOf l))
   asked-all [] w = tt
   asked-all (s ∷ l) w =
-      sendable-two (askedRequest g j (s .index) (s .condition)) (askedRequests g j (messagesOf l)) (asked-one s (w zero (omega arith)))
-      (asked-all l (λ k h. w (suc k) (omega arith)))
+      let e = w zero (omega arith) in
+      let i = station-in s e .index in
+      let p = small-both s e in
+      let short = askedRequest g j (s .index) (s .short .condition) in
+      let long = askedRequest g j (s .index) (s .long .condition) in
+      let rest = asked-all l (λ k h. w (suc k) (omega arith)) in
+      sendable-two short (long ++ askedRequests g j (messagesOf l)) (asked-one (s .index) (s .short .condition) i (p .0))
+      (sendable-two long (askedRequests g j (messagesOf l)) (asked-one (s .index) (s .long .condition) i (p .1)) rest)
 
 -- ---- a row of the wire
 

@@ -16,4 +16,4 @@ pub record SoundChannel (ch : Channel) : Type 0 where
 -- all that is shown of it, as call `k` of 64 bits
 abbrev pub ShownWithin : Type 0
 ShownWithin = (ch : Channel) → SoundChannel ch → (k : ℕ) → k ≤ 18446744073709551615
-    → length (joined (showLines k (tableCounters (ch .stations)) (ch .stations) (ch .wire))) ≤ 14318
+    → length (joined (showLines k (tableCounters (ch .stations)) (ch .stations) (ch .wire))) ≤ 23854

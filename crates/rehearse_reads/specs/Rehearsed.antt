@@ -19,4 +19,4 @@ RehearseInPieces = InPiecesHolds rehearseProgram
 
 -- an input that is there whole, in one call, with room for all that is printed and for the lines of one record more
 abbrev pub RehearseWhole : Type 0
-RehearseWhole = (input buffer : List ℕ) → length (rehearsalOf input) + 16384 ≤ length buffer → WholeInput rehearseProgram input buffer
+RehearseWhole = (input buffer : List ℕ) → length (rehearsalOf input) + 24576 ≤ length buffer → WholeInput rehearseProgram input buffer

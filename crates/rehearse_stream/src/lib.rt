@@ -10,7 +10,7 @@ ghost use Rattle.programs.specs.Buffering.{bufferedOf};
 ghost use Rattle.rehearsing.specs.Rehearse.{rehearseProgram, reachedBy};
 
 // The lines of a record take no more than this.
-const LINES: usize = 16384;
+const LINES: usize = 24576;
 
 // Reads the records that begin at place start of the bytes, one after another, and writes their lines from place at of the buffer on,
 // until no whole record is left, one ends the output, or the buffer has no room for the lines of another (the answer is then Went);

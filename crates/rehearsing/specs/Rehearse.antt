@@ -10,12 +10,12 @@ use Rattle.rehearsing.specs.declared.Rehearsal.{Rehearsal}
 use Rattle.rehearsing.specs.declared.Next.{Next}
 use Rattle.rehearsing.specs.Rehearsing.{atStart, rehearseRecord}
 
--- records of 512 bytes at most; the lines of a record take no more than 16,384 bytes
+-- records of 512 bytes at most; the lines of a record take no more than 24,576 bytes
 abbrev pub rehearseProgram : Program Rehearsal
 rehearseProgram =
     record {
       longest = 512;
-      room = 16384;
+      room = 24576;
       header = headerOf;
       begin = atStart;
       place = λ (r : Rehearsal). r .place;

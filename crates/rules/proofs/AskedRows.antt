@@ -1,4 +1,4 @@
--- The row that the stations asked there make is the row of the plain channel's asking messages. Assumes nothing.
+-- The row that the records asked there make is the row of the plain channel's asking messages. Assumes nothing.
 use mathlib.Core.Path.{_≡_, refl, sym, ap, _∙_}
 use mathlib.Core.Bool.{Bool, true, false}
 use mathlib.Core.List.{List, [], _∷_, map}
@@ -11,11 +11,11 @@ use Rattle.rows.specs.Row.{weight}
 use Rattle.minislot.specs.declared.Feedback.{Feedback}
 use Rattle.rules.proofs.Clauses.{read}
 use Rattle.rules.proofs.Relation.{Agrees, askedOf}
-use Rattle.rules.proofs.Shared.{gather, askedSender, askedRow}
+use Rattle.rules.proofs.Shared.{gather, askedSender, askedRow, records, indexOf}
 use Rattle.rules.proofs.Views.{Sender, senderAt, requestFrom, seen, atFirst, atPlace}
-use Rattle.rules.specs.Calls.{Start, index}
+use Rattle.rules.specs.Calls.{Start}
 use Rattle.listlaws.specs.Lists.{keepIf, onlyIf}
-use Rattle.rules.specs.Messages.{Message, ofBy, of}
+use Rattle.rules.specs.Messages.{Message, ofBy, of, recordOf}
 use Rattle.rules.specs.Plain.{Plain, plainWeight}
 use Rattle.rules.specs.StationLimits.{Condition, Free, Fresh, Asked, Resolving, Urgent, Long}
 use lib.Dec.{eqb}
@@ -77,17 +77,17 @@ calls S p g k m (Fresh t) a i = refl
 calls S p g k m (Asked h j t) a i = go (eqb h g)
   where
     go : (b : Bool) → map requestFrom (onlyIf b (atPlace j (atFirst (m ∷ [])) i)) ≡ onlyIf b (onlyIf (eqb j (suc i)) (senderAt k t ∷ []))
-    go true = place-map requestFrom m j i ∙ ap (λ (s : Sender). onlyIf (eqb j (suc i)) (s ∷ [])) (let e : m .station ≡ k = a .mine in let f : t ≡ m .slots = a .fits .0 in cc)
+    go true = place-map requestFrom m j i ∙ ap (λ (s : Sender). onlyIf (eqb j (suc i)) (s ∷ [])) (let e : recordOf m ≡ k = a .mine in let f : t ≡ m .slots = a .fits .0 in cc)
     go false = refl
 calls S p g k m (Resolving h j t) a i = refl
 calls S p g k m (Urgent j) a i = refl
 calls S p g k m (Long f l t) a i = refl
 
 -- the whole row
-pub row-eq : (S : Start) (p : Plain) (condition : ℕ → Condition) (message : ℕ → Message) → ((k : ℕ) → length (S .indexes) ≤ k → condition k ≡ Free) → ((k : ℕ) → Agrees S p k (message k) (condition k)) → (g : ℕ)
-    → askedRow (index S) (length (S .indexes)) condition g (length (p .group g .asking)) 1 ≡ map (read (index S)) (p .group g .asking)
+pub row-eq : (S : Start) (p : Plain) (condition : ℕ → Condition) (message : ℕ → Message) → ((k : ℕ) → records S ≤ k → condition k ≡ Free) → ((k : ℕ) → Agrees S p k (message k) (condition k)) → (g : ℕ)
+    → askedRow (indexOf S) (records S) condition g (length (p .group g .asking)) 1 ≡ map (read (indexOf S)) (p .group g .asking)
 row-eq S p condition message outside agrees g =
-    rows (index S) (length (S .indexes)) condition outside g (p .group g .asking) 1
+    rows (indexOf S) (records S) condition outside g (p .group g .asking) 1
     (λ i k.
     ap (map requestFrom) (agrees k .asking g i) ∙ calls S p g k (message k) (condition k) (agrees k) i
     ∙ ap (λ (j : ℕ). askedSender g j k (condition k)) (let e = up-add i 1 in omega arith))

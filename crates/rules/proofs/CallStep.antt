@@ -11,18 +11,20 @@ use lib.ListN.{length, getD, length-append}
 use Rattle.rules.proofs.QueueViews.{length-segments}
 use Rattle.rules.proofs.Newcomers.{ofBy-append}
 use Rattle.rules.proofs.SlotStep.{and-both, slot-same, slot-answer, settled-eq, passes-eq, length-asking}
-use Rattle.message.specs.Message.{fitsMessage, slotsFor, ceiling}
+use Rattle.message.specs.Message.{fitsMessage, fitsShort, slotsFor, ceiling}
 use Rattle.rules.proofs.Relation.{Agrees, Numbered, Same, SameResult, Fits, remaining, whole}
-use Rattle.rules.proofs.Shared.{Table, TableResult, tableStart, tableRefuse, tableAccept, tableOffer, tableSet, tableCall, tableSettled, tableSlot, tableRow, tableSuccess}
+use Rattle.rules.proofs.Shared.{Table, TableResult, tableStart, tableRefuse, tableAccept, tableOffer, tableSet, tableCall, tableSettled, tableSlot, tableRow, tableSuccess, recordTaking, records}
 use Rattle.rules.proofs.Views.{eqb-self, seen}
+use Rattle.listlaws.specs.Lists.{keepIf}
 use Rattle.rules.specs.Calls.{Start, Call, Offer, Slot, Calendar}
-use Rattle.rules.specs.Messages.{Message, Segment, of, segmentsFrom, deliveredOf}
-use Rattle.rules.specs.Plain.{stationFrom, inRange, Plain, PlainResult, plainStart, plainRefuse, plainAccept, plainOffer, among, onChannel, plainSet, plainCall, overflows, waits, slotSum, askingRow, plainSettled, plainSlot}
+use Rattle.rules.specs.Messages.{Message, Segment, of, segmentsFrom, deliveredOf, shortRecord, longRecord, recordOf}
+use Rattle.rules.proofs.Records.{holder, isLongRecord}
+use Rattle.rules.specs.Plain.{stationFrom, inRange, Plain, PlainResult, plainStart, plainRefuse, plainAccept, plainOffer, among, onChannel, plainSet, plainCall, overflows, waits, slotSum, askingRow, plainSettled, plainSlot, newcomer}
 use Rattle.rules.specs.Queueing.{passes}
 use Rattle.rules.specs.Serving.{waiting}
 use Rattle.rules.specs.StationCalls.{isFree}
-use Rattle.rules.specs.StationLimits.{Condition, Free, Fresh, Asked, Resolving, Urgent, Long}
-use borrow.Author.Tests.{leb-true, eqb-true, ne-eqb, eqb-false}
+use Rattle.rules.specs.StationLimits.{Condition, Free, Fresh, Asked, Resolving, Urgent, Long, recordsApart}
+use borrow.Author.Tests.{leb-true, leb-false, le-leb, eq-eqb, eqb-true, ne-eqb, eqb-false}
 
 -- a refused call changes nothing
 refused : (S : Start) (p : Plain) (t : Table) (n : ℕ) → Same S p t → SameResult S (plainRefuse p n) (tableRefuse t n)
@@ -48,7 +50,27 @@ nobody k zero j i = refl
 nobody k (suc m) j zero = refl
 nobody k (suc m) j (suc i) = nobody k m (suc j) i
 
+-- a message that a record might have, for one that never had any
+abbrev unsent : ℕ → Message
+unsent k = record { serial = 0; station = holder k; slots = cond (isLongRecord k) 2 1 }
+
+unsent-record : (k : ℕ) → recordOf (unsent k) ≡ k
+unfolding recordOf
+unsent-record k = go (eqb (k % 2) 0) refl
+  where
+    go : (b : Bool) → eqb (k % 2) 0 ≡ b → cond (eqb (cond (not b) 2 1) 1) (shortRecord (k / 2)) (longRecord (k / 2)) ≡ k
+    go true e = let w : k % 2 ≡ 0 = eqb-true (k % 2) 0 e in omega arith
+    go false e = let w : k % 2 ≢ 0 = eqb-false (k % 2) 0 e in omega arith
+
+unsent-slots : (k : ℕ) → (1 ≤ unsent k .slots) × (unsent k .slots ≤ 255)
+unsent-slots k = go (isLongRecord k)
+  where
+    go : (b : Bool) → (1 ≤ cond b 2 1) × (cond b 2 1 ≤ 255)
+    go true = (omega arith, omega arith)
+    go false = (omega arith, omega arith)
+
 pub begin-same : (S : Start) → 1 ≤ S .n → Same S (plainStart S) tableStart
+unfolding recordsApart
 begin-same S h =
     record {
       h = refl;
@@ -65,12 +87,12 @@ begin-same S h =
       high = h;
       rows = λ g. length-asking (λ z. 0) [] (S .m) 1;
       crowds = λ g. tt;
-      message = λ k. record { serial = 0; station = k; slots = 1 };
+      message = unsent;
       agrees = λ k.
           record {
-            mine = refl;
-            some = omega arith;
-            few = omega arith;
+            mine = unsent-record k;
+            some = unsent-slots k .0;
+            few = unsent-slots k .1;
             fresh = refl;
             urgent = λ i. refl;
             long = λ i. refl;
@@ -79,6 +101,7 @@ begin-same S h =
             owed = refl;
             fits = tt;
           };
+      apart = λ k. refl;
       outside = λ k l. refl;
       strangers = λ k l. refl;
       numbered = tt;
@@ -88,7 +111,7 @@ begin-same S h =
       rmax = λ g. omega arith;
     }
 
--- a message of station k is not all delivered exactly if the station is not free
+-- a message of record k is not all delivered exactly if the record is not free
 pub length-whole : (l : List Message) → length (whole l) ≡ slotSum l
 length-whole [] = refl
 length-whole (m ∷ l) = length-append (segmentsFrom m (m .slots) 1) (whole l) ∙ rw (length-segments m (m .slots) 1, length-whole l)
@@ -101,7 +124,7 @@ length-rem S m (Resolving g i t) f = length-segments m (m .slots) 1 ∙ sym (f .
 length-rem S m (Urgent i) f = length-segments m (m .slots) 1 ∙ f .0
 length-rem S m (Long x l t) f = length-segments m l (suc (t - l))
 
--- THE LEDGER, one station: the slots of its messages taken are those delivered and those that wait
+-- THE LEDGER, one record: the slots of its messages taken are those delivered and those that wait
 pub ledger : (S : Start) (p : Plain) (k : ℕ) (m : Message) (c : Condition) → Agrees S p k m c → slotSum (of k (p .taken)) ≡ length (deliveredOf k (p .history)) + waiting c
 ledger S p k m c a =
     sym (length-whole (of k (p .taken))) ∙ sym (ap length (a .owed)) ∙ length-append (deliveredOf k (p .history)) (remaining m c)
@@ -145,60 +168,73 @@ numbered-more : (l : List Message) (j : ℕ) (m : Message) → m .serial ≡ j +
 numbered-more [] j m e n = (omega arith, tt)
 numbered-more (x ∷ l) j m e n = (n .0, numbered-more l (suc j) m (omega arith) (n .1))
 
-abbrev newcomer : Plain → ℕ → ℕ → Message
-newcomer p k s = record { serial = length (p .taken); station = k; slots = s }
+module _ (S : Start) (p : Plain) (t : Table) (R : Same S p t) (n : Message) (serial : n .serial ≡ length (p .taken)) (inside : recordOf n < records S) (free : t .condition (recordOf n) ≡ Free)
+    (some : 1 ≤ n .slots) (few : n .slots ≤ 255) where
+  of-more : (k : ℕ) (b : Bool) → eqb (recordOf n) k ≡ b → (l : List Message) → of k (l ++ (n ∷ [])) ≡ of k l ++ keepIf b n []
+  of-more k b e l = ofBy-append (λ (m : Message). recordOf m) k l (n ∷ []) ∙ rw e
 
-module _ (S : Start) (p : Plain) (t : Table) (R : Same S p t) (k s : ℕ) (inside : k < length (S .indexes)) (free : t .condition k ≡ Free) (some : 1 ≤ s) (few : s ≤ 255) where
-  accept-own : Agrees S (plainAccept p (newcomer p k s) .state) k (newcomer p k s) (Fresh s)
+  accept-own : Agrees S (plainAccept p n .state) (recordOf n) n (Fresh (n .slots))
   accept-own =
       record {
         mine = refl;
         some = some;
         few = few;
-        fresh = ofBy-append (λ (m : Message). m .station) k (p .fresh) (newcomer p k s ∷ []) ∙ rw (a .fresh, eqb-self k);
+        fresh = of-more (recordOf n) true (eqb-self (recordOf n)) (p .fresh) ∙ rw (a .fresh);
         urgent = a .urgent;
         long = a .long;
         asking = a .asking;
         resolution = a .resolution;
         owed =
-            ap (λ (z : List Segment). z ++ segmentsFrom (newcomer p k s) s 1) (sym (append-nil (deliveredOf k (p .history))) ∙ a .owed)
-            ∙ ap (λ (z : List Segment). whole (of k (p .taken)) ++ z) (sym (append-nil (segmentsFrom (newcomer p k s) s 1)))
-            ∙ sym (whole-append (of k (p .taken)) (newcomer p k s ∷ []))
-            ∙ ap whole (sym more);
+            ap (λ (z : List Segment). z ++ segmentsFrom n (n .slots) 1) (sym (append-nil (deliveredOf (recordOf n) (p .history))) ∙ a .owed)
+            ∙ ap (λ (z : List Segment). whole (of (recordOf n) (p .taken)) ++ z) (sym (append-nil (segmentsFrom n (n .slots) 1)))
+            ∙ sym (whole-append (of (recordOf n) (p .taken)) (n ∷ []))
+            ∙ ap whole (sym (of-more (recordOf n) true (eqb-self (recordOf n)) (p .taken)));
         fits = refl;
       }
     where
-      more : of k (p .taken ++ (newcomer p k s ∷ [])) ≡ of k (p .taken) ++ (newcomer p k s ∷ [])
-      more = ofBy-append (λ (m : Message). m .station) k (p .taken) (newcomer p k s ∷ []) ∙ rw (eqb-self k)
+      a : Agrees S p (recordOf n) (R .message (recordOf n)) Free
+      a = rw free at (R .agrees (recordOf n))
 
-      a : Agrees S p k (R .message k) Free
-      a = rw free at (R .agrees k)
-
-  accept-other : (i : ℕ) → eqb i k ≡ false → Agrees S (plainAccept p (newcomer p k s) .state) i (R .message i) (t .condition i)
+  accept-other : (i : ℕ) → eqb i (recordOf n) ≡ false → Agrees S (plainAccept p n .state) i (R .message i) (t .condition i)
   accept-other i e =
       record {
         mine = a .mine;
         some = a .some;
         few = a .few;
-        fresh = ofBy-append (λ (m : Message). m .station) i (p .fresh) (newcomer p k s ∷ []) ∙ rw (far, append-nil) (a .fresh);
+        fresh = of-more i false far (p .fresh) ∙ append-nil (of i (p .fresh)) ∙ a .fresh;
         urgent = a .urgent;
         long = a .long;
         asking = a .asking;
         resolution = a .resolution;
-        owed = a .owed ∙ ap whole (sym none-more);
+        owed = a .owed ∙ ap whole (sym (of-more i false far (p .taken) ∙ append-nil (of i (p .taken))));
         fits = a .fits;
       }
     where
       a : Agrees S p i (R .message i) (t .condition i)
       a = R .agrees i
 
-      far : eqb k i ≡ false
-      far = ne-eqb k i (λ w. eqb-false i k e (sym w))
+      far : eqb (recordOf n) i ≡ false
+      far = ne-eqb (recordOf n) i (λ w. eqb-false i (recordOf n) e (sym w))
 
-      none-more : of i (p .taken ++ (newcomer p k s ∷ [])) ≡ of i (p .taken)
-      none-more = ofBy-append (λ (m : Message). m .station) i (p .taken) (newcomer p k s ∷ []) ∙ rw (far, append-nil)
+  -- a fresh message is apart from any other
+  accept-apart : (k : ℕ) → recordsApart (cond (eqb (shortRecord k) (recordOf n)) (Fresh (n .slots)) (t .condition (shortRecord k))) (cond (eqb (longRecord k) (recordOf n)) (Fresh (n .slots)) (t .condition (longRecord k))) ≡ true
+  unfolding recordsApart
+  accept-apart k = go (eqb (shortRecord k) (recordOf n)) (eqb (longRecord k) (recordOf n)) (R .apart k)
+    where
+      to-fresh : (c : Condition) → recordsApart c (Fresh (n .slots)) ≡ true
+      to-fresh Free = refl
+      to-fresh (Fresh x) = refl
+      to-fresh (Asked g j x) = refl
+      to-fresh (Resolving g j x) = refl
+      to-fresh (Urgent j) = refl
+      to-fresh (Long f l x) = refl
 
-  accept-same : SameResult S (plainAccept p (newcomer p k s)) (tableAccept t k s)
+      go : (a b : Bool) → recordsApart (t .condition (shortRecord k)) (t .condition (longRecord k)) ≡ true → recordsApart (cond a (Fresh (n .slots)) (t .condition (shortRecord k))) (cond b (Fresh (n .slots)) (t .condition (longRecord k))) ≡ true
+      go true b e = refl
+      go false true e = to-fresh (t .condition (shortRecord k))
+      go false false e = e
+
+  accept-same : SameResult S (plainAccept p n) (tableAccept t (recordOf n) (n .slots))
   accept-same =
       record {
         state =
@@ -217,11 +253,12 @@ module _ (S : Start) (p : Plain) (t : Table) (R : Same S p t) (k s : ℕ) (insid
               high = R .high;
               rows = R .rows;
               crowds = R .crowds;
-              message = λ i. cond (eqb i k) (newcomer p k s) (R .message i);
-              agrees = λ i. go i (eqb i k) refl;
-              outside = λ i l. rw (ne-eqb i k (λ w. omega arith)) (R .outside i l);
-              strangers = λ i l. ofBy-append (λ (m : Message). m .station) i (p .taken) (newcomer p k s ∷ []) ∙ rw (ne-eqb k i (λ w. omega arith), append-nil) (R .strangers i l);
-              numbered = numbered-more (p .taken) 0 (newcomer p k s) (omega arith) (R .numbered);
+              message = λ i. cond (eqb i (recordOf n)) n (R .message i);
+              agrees = λ i. go i (eqb i (recordOf n)) refl;
+              apart = accept-apart;
+              outside = λ i l. rw (ne-eqb i (recordOf n) (λ w. omega arith)) (R .outside i l);
+              strangers = λ i l. of-more i false (ne-eqb (recordOf n) i (λ w. omega arith)) (p .taken) ∙ append-nil (of i (p .taken)) ∙ R .strangers i l;
+              numbered = numbered-more (p .taken) 0 n (omega (arith, serial)) (R .numbered);
               idle = R .idle;
               hmax = R .hmax;
               nmax = R .nmax;
@@ -230,8 +267,8 @@ module _ (S : Start) (p : Plain) (t : Table) (R : Same S p t) (k s : ℕ) (insid
         answer = refl;
       }
     where
-      go : (i : ℕ) (b : Bool) → eqb i k ≡ b → Agrees S (plainAccept p (newcomer p k s) .state) i (cond b (newcomer p k s) (R .message i)) (cond b (Fresh s) (t .condition i))
-      go i true e = rw (eqb-true i k e) accept-own
+      go : (i : ℕ) (b : Bool) → eqb i (recordOf n) ≡ b → Agrees S (plainAccept p n .state) i (cond b n (R .message i)) (cond b (Fresh (n .slots)) (t .condition i))
+      go i true e = rw (eqb-true i (recordOf n) e) accept-own
       go i false e = accept-other i e
 
 -- a calendar set: 24 entries, each free or a station's, some of them free. Nothing else changes
@@ -257,6 +294,7 @@ set-same S p t entries R size owners free =
             crowds = R .crowds;
             message = R .message;
             agrees = λ k. stays k (R .agrees k);
+            apart = R .apart;
             outside = R .outside;
             strangers = R .strangers;
             numbered = R .numbered;
@@ -295,6 +333,31 @@ good-size bytes e = go (eqb (bytes % 48) 0) refl
     go true w = let z : bytes % 48 ≡ 0 = eqb-true (bytes % 48) 0 w in omega (arith, sides)
     go false w = let z : bytes % 48 ≢ 0 = eqb-false (bytes % 48) 0 w in omega (arith, sides)
 
+-- the length that picks the short record is that of a message of one slot
+pub short-slots : (bytes : ℕ) → fitsMessage bytes ≡ true → fitsShort bytes ≡ eqb (slotsFor bytes) 1
+unfolding fitsMessage fitsShort slotsFor ceiling
+short-slots bytes e = go (leb bytes 48) refl
+  where
+    sides : (1 ≤ bytes) × (bytes ≤ 12240)
+    sides = let (a, b) = and-both (leb 1 bytes) (leb bytes 12240) e in (leb-true 1 bytes a, leb-true bytes 12240 b)
+
+    one : bytes ≤ 48 → (b : Bool) → eqb (bytes % 48) 0 ≡ b → cond b (bytes / 48) (bytes / 48 + 1) ≡ 1
+    one l true w = let z : bytes % 48 ≡ 0 = eqb-true (bytes % 48) 0 w in omega (arith, sides)
+    one l false w = let z : bytes % 48 ≢ 0 = eqb-false (bytes % 48) 0 w in omega (arith, sides)
+
+    more : 48 < bytes → (b : Bool) → eqb (bytes % 48) 0 ≡ b → cond b (bytes / 48) (bytes / 48 + 1) ≢ 1
+    more l true w q = let z : bytes % 48 ≡ 0 = eqb-true (bytes % 48) 0 w in omega (arith, q)
+    more l false w q = let z : bytes % 48 ≢ 0 = eqb-false (bytes % 48) 0 w in omega (arith, q)
+
+    go : (b : Bool) → leb bytes 48 ≡ b → (leb 1 bytes && b) ≡ eqb (cond (eqb (bytes % 48) 0) (bytes / 48) (bytes / 48 + 1)) 1
+    go true w = rw (le-leb 1 bytes (sides .0)) (sym (eq-eqb _ 1 (one (leb-true bytes 48 w) (eqb (bytes % 48) 0) refl)))
+    go false w = rw (le-leb 1 bytes (sides .0)) (sym (ne-eqb _ 1 (more (leb-false bytes 48 w) (eqb (bytes % 48) 0) refl)))
+
+-- so the record that a message is for is the one that holds it
+pub taking-record : (p : Plain) (k bytes : ℕ) → fitsMessage bytes ≡ true → recordTaking k bytes ≡ recordOf (newcomer p k bytes)
+unfolding recordOf
+taking-record p k bytes e = ap (λ (b : Bool). cond b (shortRecord k) (longRecord k)) (short-slots bytes e)
+
 cond-not {ℓ} : {A : Type ℓ} (b : Bool) (x y : A) → cond (not b) x y ≡ cond b y x
 cond-not true x y = refl
 cond-not false x y = refl
@@ -304,10 +367,20 @@ module _ (S : Start) (ml : 1 ≤ S .m) (p : Plain) (t : Table) (R : Same S p t) 
   offer-same : (bytes : ℕ) (o : Option ℕ) → ((k : ℕ) → o ≡ some k → k < length (S .indexes)) → SameResult S (plainOffer p bytes o) (tableOffer t bytes o)
   offer-same bytes none h = refused S p t 16 R
   offer-same bytes (some k) h =
-      rw (waits-eq S p t R k, cond-not (isFree (t .condition k)))
-      (both S (isFree (t .condition k)) _ _ _ _
-      (λ e. both S (fitsMessage bytes) _ _ _ _ (λ f. accept-same S p t R k (slotsFor bytes) (h k refl) (is-free (t .condition k) e) (good-size bytes f .0) (good-size bytes f .1)) (λ f. refused S p t 10 R))
-      (λ e. refused S p t 9 R))
+      both S (fitsMessage bytes) _ _ _ _
+      (λ f.
+      rw (taking-record p k bytes f, waits-eq S p t R (recordOf (newcomer p k bytes)), cond-not (isFree (t .condition (recordOf (newcomer p k bytes)))))
+      (both S (isFree (t .condition (recordOf (newcomer p k bytes)))) _ _ _ _
+      (λ e. accept-same S p t R (newcomer p k bytes) refl (below f) (is-free (t .condition (recordOf (newcomer p k bytes))) e) (good-size bytes f .0) (good-size bytes f .1))
+      (λ e. refused S p t 9 R)))
+      (λ f. refused S p t 10 R)
+    where
+      kept : (b : Bool) → cond b (shortRecord k) (longRecord k) < records S
+      kept true = omega (arith, h k refl)
+      kept false = omega (arith, h k refl)
+
+      below : fitsMessage bytes ≡ true → recordOf (newcomer p k bytes) < records S
+      below f = rw (← (taking-record p k bytes f)) (kept (fitsShort bytes))
 
   slot-go : (picks : List ℕ) → inRange (S .m) picks ≡ true
       → SameResult S (cond (overflows (plainSettled p)) (plainRefuse p 7) (plainSlot S (λ k. getD picks k 1) p))

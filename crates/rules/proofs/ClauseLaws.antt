@@ -98,7 +98,7 @@ front-is true g pick h zero t w = absurd (omega arith)
 front-is true g pick h (suc zero) t w = refl
 front-is true g pick h (suc (suc i)) t w = rw (past-one i) (ap (λ (x : ℕ). Resolving h x t) (omega arith))
 
-pub asks-is : (r g pick : ℕ) (c : Condition) → Placed c → requested r g pick c ≡ asks r g pick c
+pub asks-is : (r g pick : ℕ) (c : Condition) → Placed c → requested r g pick c ≡ asks false r g pick c
 unfolding requested
 asks-is zero g pick Free w = refl
 asks-is zero g pick (Fresh t) w = refl

@@ -1,6 +1,6 @@
 -- The station's rules by clauses on places and lengths, as the proof by induction takes them apart. Each is the rule of specs/ in another shape:
 -- proofs/ClauseLaws proves them equal. Assumes nothing.
-use mathlib.Core.Bool.{Bool, true, false, cond}
+use mathlib.Core.Bool.{Bool, true, false, not, cond}
 use mathlib.Core.List.{List, [], _∷_, map}
 use mathlib.Core.Option.{Option, none, some}
 use Prim.Native.Nat.{ℕ, zero, suc, _-_}
@@ -34,7 +34,7 @@ loneNumberOf Empty = 0
 loneNumberOf (Single i s) = s
 loneNumberOf Collide = 0
 
--- the station asked in minislot j (from 1) of the row: its minislot, with the lengths of the minislots before
+-- the record asked in minislot j (from 1) of the row: its minislot, with the lengths of the minislots before
 abbrev pub after : Bool → ℕ → List Feedback → Places → ℕ → ℕ → Condition
 after b g [] c j t = Free
 after b g (f ∷ row) c zero t = Free
@@ -57,19 +57,24 @@ front true g j h zero t = Resolving h zero t
 front true g j h (suc zero) t = Asked g j t
 front true g j h (suc (suc i)) t = Resolving h (suc i) t
 
-abbrev pub asks : ℕ → ℕ → ℕ → Condition → Condition
-asks zero g j Free = Free
-asks zero g j (Fresh t) = Asked g j t
-asks zero g j (Asked h i t) = Asked h i t
-asks zero g j (Resolving h i t) = Resolving h i t
-asks zero g j (Urgent i) = Urgent i
-asks zero g j (Long f l t) = Long f l t
-asks (suc r) g j Free = Free
-asks (suc r) g j (Fresh t) = Fresh t
-asks (suc r) g j (Asked h i t) = Asked h i t
-asks (suc r) g j (Resolving h i t) = front (eqb h g) g j h i t
-asks (suc r) g j (Urgent i) = Urgent i
-asks (suc r) g j (Long f l t) = Long f l t
+-- a fresh message is held back, or it asks
+abbrev pub freshAsks : Bool → ℕ → ℕ → ℕ → Condition
+freshAsks true g j t = Fresh t
+freshAsks false g j t = Asked g j t
+
+abbrev pub asks : Bool → ℕ → ℕ → ℕ → Condition → Condition
+asks b zero g j Free = Free
+asks b zero g j (Fresh t) = freshAsks b g j t
+asks b zero g j (Asked h i t) = Asked h i t
+asks b zero g j (Resolving h i t) = Resolving h i t
+asks b zero g j (Urgent i) = Urgent i
+asks b zero g j (Long f l t) = Long f l t
+asks b (suc r) g j Free = Free
+asks b (suc r) g j (Fresh t) = Fresh t
+asks b (suc r) g j (Asked h i t) = Asked h i t
+asks b (suc r) g j (Resolving h i t) = front (eqb h g) g j h i t
+asks b (suc r) g j (Urgent i) = Urgent i
+asks b (suc r) g j (Long f l t) = Long f l t
 
 -- step 4 and the rest of step 5, by H and N after step 1 as the slot's data heeds them: an owned slot serves neither queue
 abbrev pub heeded : Option ℕ → ℕ → ℕ
@@ -143,13 +148,14 @@ abbrev pub ownedOr : Option ℕ → (ℕ → ℕ) → ℕ → ℕ
 ownedOr (some x) f d = f x
 ownedOr none f d = d
 
--- step 3: station k's request in minislot j of group g, with RQ r after step 1, its pick, and its condition after step 1
-abbrev pub requestSender : ℕ → ℕ → ℕ → ℕ → ℕ → Condition → List Sender
-requestSender r g pick j k Free = []
-requestSender zero g pick j k (Fresh t) = onlyIf (eqb pick j) (senderAt k t ∷ [])
-requestSender (suc r) g pick j k (Fresh t) = []
-requestSender r g pick j k (Asked h i t) = []
-requestSender zero g pick j k (Resolving h i t) = []
-requestSender (suc r) g pick j k (Resolving h i t) = onlyIf (eqb h g) (onlyIf (eqb i 1) (onlyIf (eqb pick j) (senderAt k t ∷ [])))
-requestSender r g pick j k (Urgent i) = []
-requestSender r g pick j k (Long f l t) = []
+-- step 3: record k's request in minislot j of group g, whether it is held back if it is fresh, with RQ r after step 1, its pick, and its condition
+-- after step 1
+abbrev pub requestSender : Bool → ℕ → ℕ → ℕ → ℕ → ℕ → Condition → List Sender
+requestSender b r g pick j k Free = []
+requestSender b zero g pick j k (Fresh t) = onlyIf (not b) (onlyIf (eqb pick j) (senderAt k t ∷ []))
+requestSender b (suc r) g pick j k (Fresh t) = []
+requestSender b r g pick j k (Asked h i t) = []
+requestSender b zero g pick j k (Resolving h i t) = []
+requestSender b (suc r) g pick j k (Resolving h i t) = onlyIf (eqb h g) (onlyIf (eqb i 1) (onlyIf (eqb pick j) (senderAt k t ∷ [])))
+requestSender b r g pick j k (Urgent i) = []
+requestSender b r g pick j k (Long f l t) = []

@@ -1,7 +1,7 @@
--- Who sends a segment in a slot, nobody if it is owned: the plain channel's list and the stations' have the same entries of every station.
+-- Who sends a segment in a slot, nobody if it is owned: the plain channel's list and the table's have the same entries of every record.
 -- Assumes nothing.
 use mathlib.Core.Path.{_≡_, refl, sym, ap, _∙_}
-use mathlib.Core.Bool.{Bool, true, false, cond}
+use mathlib.Core.Bool.{Bool, true, false, not, cond, _&&_}
 use mathlib.Core.List.{List, [], _∷_, map}
 use mathlib.Core.Option.{Option, none, some}
 use Prim.Native.Nat.{ℕ, zero, suc, _-_, _≤_}
@@ -16,8 +16,10 @@ use Rattle.rules.proofs.Shared.{gather, senderIf}
 use Rattle.rules.proofs.Views.{Sender, senderAt, dataFrom, seen}
 use Rattle.rules.specs.Calls.{Start}
 use Rattle.listlaws.specs.Lists.{keepIf, onlyIf}
-use Rattle.rules.specs.Messages.{Message, Segment, segment, ofBy, of}
-use Rattle.rules.specs.Plain.{sent, oneSlot}
+use Rattle.rules.specs.Messages.{Message, Segment, segment, ofBy, of, recordOf}
+use Rattle.rules.specs.Plain.{sent, oneSlot, askers}
+use Rattle.rules.proofs.AskViews.{heldIn, of-asking}
+use Rattle.rules.proofs.Records.{isLongRecord, kind-of}
 use Rattle.rules.specs.Positions.{one, part}
 use Rattle.rules.specs.StationLimits.{Condition, Free, Fresh, Asked, Resolving, Urgent, Long}
 use borrow.Author.Tests.{eqb-true, ne-eqb}
@@ -27,27 +29,27 @@ abbrev keyed : ℕ → List Sender → List Sender
 keyed k l = ofBy (λ s. s .position) k l
 
 -- a sender seen by its key
-one-data : (k : ℕ) (x : Message) → keyed k (senderAt (x .station) 1 ∷ []) ≡ map (λ (y : Message). senderAt k 1) (one k x)
-one-data k x = go (eqb (x .station) k) refl
+one-data : (k : ℕ) (x : Message) → keyed k (senderAt (recordOf x) 1 ∷ []) ≡ map (λ (y : Message). senderAt k 1) (one k x)
+one-data k x = go (eqb (recordOf x) k) refl
   where
-    go : (b : Bool) → eqb (x .station) k ≡ b → keepIf b (senderAt (x .station) 1) [] ≡ map (λ (y : Message). senderAt k 1) (onlyIf b (x ∷ []))
-    go true e = rw (eqb-true (x .station) k e)
+    go : (b : Bool) → eqb (recordOf x) k ≡ b → keepIf b (senderAt (recordOf x) 1) [] ≡ map (λ (y : Message). senderAt k 1) (onlyIf b (x ∷ []))
+    go true e = rw (eqb-true (recordOf x) k e)
     go false e = refl
 
 part-data : (k : ℕ) (s : Segment) → keyed k (dataFrom s ∷ []) ≡ map (λ (y : Segment). senderAt k (y .number)) (part k s)
-part-data k s = go (eqb (s .message .station) k) refl
+part-data k s = go (eqb (recordOf (s .message)) k) refl
   where
-    go : (b : Bool) → eqb (s .message .station) k ≡ b → keepIf b (dataFrom s) [] ≡ map (λ (y : Segment). senderAt k (y .number)) (onlyIf b (s ∷ []))
-    go true e = rw (eqb-true (s .message .station) k e)
+    go : (b : Bool) → eqb (recordOf (s .message)) k ≡ b → keepIf b (dataFrom s) [] ≡ map (λ (y : Segment). senderAt k (y .number)) (onlyIf b (s ∷ []))
+    go true e = rw (eqb-true (recordOf (s .message)) k e)
     go false e = refl
 
 oneSlot-data : (k : ℕ) (l : List Message) → keyed k (map dataFrom (map (λ (m : Message). segment m 1) (oneSlot l))) ≡ map (λ (y : Message). senderAt k 1) (oneSlot (of k l))
 oneSlot-data k [] = refl
-oneSlot-data k (x ∷ l) = go (oneSlot-data k l) (eqb (x .slots) 1) refl (eqb (x .station) k) refl
+oneSlot-data k (x ∷ l) = go (oneSlot-data k l) (eqb (x .slots) 1) refl (eqb (recordOf x) k) refl
   where
-    go : keyed k (map dataFrom (map (λ (m : Message). segment m 1) (oneSlot l))) ≡ map (λ (y : Message). senderAt k 1) (oneSlot (of k l)) → (b : Bool) → eqb (x .slots) 1 ≡ b → (c : Bool) → eqb (x .station) k ≡ c
+    go : keyed k (map dataFrom (map (λ (m : Message). segment m 1) (oneSlot l))) ≡ map (λ (y : Message). senderAt k 1) (oneSlot (of k l)) → (b : Bool) → eqb (x .slots) 1 ≡ b → (c : Bool) → eqb (recordOf x) k ≡ c
         → keyed k (map dataFrom (map (λ (m : Message). segment m 1) (keepIf b x (oneSlot l)))) ≡ map (λ (y : Message). senderAt k 1) (oneSlot (keepIf c x (of k l)))
-    go ih true e true f = rw (f, e, eqb-true (x .station) k f) (ap (λ (z : List Sender). senderAt k 1 ∷ z) ih)
+    go ih true e true f = rw (f, e, eqb-true (recordOf x) k f) (ap (λ (z : List Sender). senderAt k 1 ∷ z) ih)
     go ih true e false f = rw f ih
     go ih false e true f = rw e ih
     go ih false e false f = ih
@@ -94,14 +96,41 @@ module _ (S : Start) (k : ℕ) (m : Message) where
   open-send (Urgent i) w = refl
   open-send (Long f l t) w = refl
 
-  pub send-ok : (o : Option ℕ) (u : List Message) (l : List Segment) (r : List (List Message)) (f : List Message) (c : Condition) → Fits S m c
+  -- a message that is held back has more than one slot
+  not-one : recordOf m ≡ k → isLongRecord k ≡ true → eqb (m .slots) 1 ≡ false
+  not-one e w = go (eqb (m .slots) 1) (sym (kind-of m) ∙ ap isLongRecord e ∙ w)
+    where
+      go : (b : Bool) → not b ≡ true → b ≡ false
+      go true q = sym q
+      go false q = refl
+
+  none-of-one : eqb (m .slots) 1 ≡ false → (c : Condition) → oneSlot (freshOf m c) ≡ []
+  none-of-one e Free = refl
+  none-of-one e (Fresh t) = rw e
+  none-of-one e (Asked g j t) = refl
+  none-of-one e (Resolving g i t) = refl
+  none-of-one e (Urgent i) = refl
+  none-of-one e (Long f l t) = refl
+
+  one-asking : recordOf m ≡ k → (f : List Message) (c : Condition) → of k f ≡ freshOf m c → oneSlot (of k (askers [] f)) ≡ oneSlot (freshOf m c)
+  one-asking e f c w = go (heldIn f k) refl
+    where
+      long : (a b : Bool) → (a && b) ≡ true → a ≡ true
+      long true b q = refl
+      long false b q = q
+
+      go : (b : Bool) → heldIn f k ≡ b → oneSlot (of k (askers [] f)) ≡ oneSlot (freshOf m c)
+      go true h = ap oneSlot (of-asking k f true h) ∙ sym (none-of-one (not-one e (long (isLongRecord k) _ h)) c)
+      go false h = ap oneSlot (of-asking k f false h ∙ w)
+
+  pub send-ok : (o : Option ℕ) (u : List Message) (l : List Segment) (r : List (List Message)) (f : List Message) (c : Condition) → recordOf m ≡ k → Fits S m c
       → seen (one k) u zero ≡ urgentOf m c zero → seen (part k) l zero ≡ longOf m c zero → of k f ≡ freshOf m c
       → keyed k (map dataFrom (sent o u l r f)) ≡ senderIf k (sendsIn o (length u) (length l) (length r) c)
-  send-ok (some x) u l r f c w a b e = refl
-  send-ok none (x ∷ u) l r f c w a b e = one-data k x ∙ ap (map (λ (y : Message). senderAt k 1)) a ∙ urgent-send (length u) (length l) (length r) c
-  send-ok none [] (y ∷ l) r f c w a b e = part-data k y ∙ ap (map (λ (y : Segment). senderAt k (y .number))) b ∙ long-send (length l) (length r) c w
-  send-ok none [] [] (x ∷ r) f c w a b e = rest-send (length r) c
-  send-ok none [] [] [] f c w a b e = oneSlot-data k f ∙ ap (λ (z : List Message). map (λ (y : Message). senderAt k 1) (oneSlot z)) e ∙ open-send c w
+  send-ok (some x) u l r f c q w a b e = refl
+  send-ok none (x ∷ u) l r f c q w a b e = one-data k x ∙ ap (map (λ (y : Message). senderAt k 1)) a ∙ urgent-send (length u) (length l) (length r) c
+  send-ok none [] (y ∷ l) r f c q w a b e = part-data k y ∙ ap (map (λ (y : Segment). senderAt k (y .number))) b ∙ long-send (length l) (length r) c w
+  send-ok none [] [] (x ∷ r) f c q w a b e = rest-send (length r) c
+  send-ok none [] [] [] f c q w a b e = oneSlot-data k (askers [] f) ∙ ap (map (λ (y : Message). senderAt k 1)) (one-asking q f c e) ∙ open-send c w
 
 sender-own : (j s k : ℕ) → keyed k (senderIf j s) ≡ onlyIf (eqb j k) (senderIf j s)
 sender-own j zero k = sym (onlyIf-nil (eqb j k))

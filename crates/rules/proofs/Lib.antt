@@ -4,6 +4,7 @@ pub mod Settled
 pub mod Refusals
 pub mod LimitLaws
 -- DEMAND 3: the plain channel beside the shared table, call by call, and a record beside the table, slot by slot
+pub mod Records
 pub mod Views
 pub mod Clauses
 pub mod Shared
@@ -15,9 +16,11 @@ pub mod FallViews
 pub mod SettleViews
 pub mod ServeViews
 pub mod OneStation
+pub mod Parting
 pub mod Census
 pub mod AskedRows
 pub mod DataSenders
+pub mod RecordKinds
 pub mod SlotStep
 pub mod CallStep
 pub mod ClauseLaws

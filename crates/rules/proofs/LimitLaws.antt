@@ -14,7 +14,7 @@ use Rattle.rules.specs.declared.Station.{Station}
 use Rattle.rules.specs.Calendars.{entriesWithin, someFree, calendarWithin, entryWithin}
 use Rattle.rules.specs.Limits.{withinLimits, groupsWithin, between, resolutionWithin, openedWithin}
 use Rattle.rules.specs.Queueing.{passes}
-use Rattle.rules.specs.StationLimits.{conditionWithin, stationWithin}
+use Rattle.rules.specs.StationLimits.{Condition, conditionWithin, shortWithin, longWithin, recordsApart, messagesWithin, stationWithin}
 
 pub between-bounds : (low x high : ℕ) → between low x high ≡ true → (low ≤ x) × (x ≤ high)
 between-bounds low x high e =
@@ -95,15 +95,33 @@ none-passes p e =
     let r = or-false (ltb 4095 (p .urgent)) (ltb 65535 (p .long)) (q .0) in
     (ltb-false 4095 (p .urgent) (r .0), ltb-false 65535 (p .long) (r .1), ltb-false 4095 (p .resolution) (q .1))
 
--- a station's record within its limits: its counters, its index, its condition
+-- a station's two records within their limits: each condition, each kind, and apart
+pub record RecordsIn (c : Counters) (a b : Condition) : Type 0 where
+  pub short : conditionWithin c a ≡ true
+  pub brief : shortWithin a ≡ true
+  pub long : conditionWithin c b ≡ true
+  pub lengthy : longWithin b ≡ true
+  pub apart : recordsApart a b ≡ true
+
+pub records-in : (c : Counters) (a b : Condition) → messagesWithin c a b ≡ true → RecordsIn c a b
+unfolding messagesWithin
+records-in c a b e =
+    let p₄ = and-eq-true-iff (conditionWithin c a && shortWithin a && conditionWithin c b && longWithin b) (recordsApart a b) .0 e in
+    let p₃ = and-eq-true-iff (conditionWithin c a && shortWithin a && conditionWithin c b) (longWithin b) .0 (p₄ .0) in
+    let p₂ = and-eq-true-iff (conditionWithin c a && shortWithin a) (conditionWithin c b) .0 (p₃ .0) in
+    let p₁ = and-eq-true-iff (conditionWithin c a) (shortWithin a) .0 (p₂ .0) in
+    record { short = p₁ .0; brief = p₁ .1; long = p₂ .1; lengthy = p₃ .1; apart = p₄ .1 }
+
+-- a station's record within its limits: its counters, its index, its two message records
 pub record StationIn (s : Station) : Type 0 where
   pub counters : withinLimits (s .counters) ≡ true
   pub index : s .index ≤ 923
-  pub condition : conditionWithin (s .counters) (s .condition) ≡ true
+  pub records : RecordsIn (s .counters) (s .short .condition) (s .long .condition)
 
 pub station-in : (s : Station) → stationWithin s ≡ true → StationIn s
 unfolding stationWithin
 station-in s e =
-    let p = and-eq-true-iff (withinLimits (s .counters) && leb (s .index) 923) (conditionWithin (s .counters) (s .condition)) .0 e in
+    let k = messagesWithin (s .counters) (s .short .condition) (s .long .condition) in
+    let p = and-eq-true-iff (withinLimits (s .counters) && leb (s .index) 923) k .0 e in
     let q = and-eq-true-iff (withinLimits (s .counters)) (leb (s .index) 923) .0 (p .0) in
-    record { counters = q .0; index = leb-true (s .index) 923 (q .1); condition = p .1 }
+    record { counters = q .0; index = leb-true (s .index) 923 (q .1); records = records-in (s .counters) (s .short .condition) (s .long .condition) (p .1) }

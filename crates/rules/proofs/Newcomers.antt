@@ -15,7 +15,7 @@ use Rattle.rules.proofs.Relation.{lengths, Shows}
 use Rattle.rules.proofs.Views.{eqb-self, seen, atFirst, shifted}
 use Rattle.rules.specs.Calls.{Start}
 use Rattle.listlaws.specs.Lists.{keepIf}
-use Rattle.rules.specs.Messages.{Message, Segment, ofBy, of, segment, segmentsFrom, deliveredOf}
+use Rattle.rules.specs.Messages.{Message, Segment, ofBy, of, segment, segmentsFrom, deliveredOf, recordOf}
 use Rattle.rules.specs.Plain.{Queues, joinAlone, joinMinislot, joinRow}
 use Rattle.rules.specs.Positions.{one, part}
 use Rattle.rules.specs.Queueing.{queued, queuedRow, queuedSingle}
@@ -36,9 +36,9 @@ module _ {ℓ} {A : Type ℓ} (position : A → ℕ) (k : ℕ) where
 
 module _ (S : Start) (g k : ℕ) (m : Message) (A : List Segment) where
   -- a lone message of another station
-  other-alone : (b o : Bool) (c : Condition) (x : Message) (q : Queues) → eqb (x .station) k ≡ false → Shows S g k m A q c → Shows S g k m A (joinAlone b o x q) c
+  other-alone : (b o : Bool) (c : Condition) (x : Message) (q : Queues) → eqb (recordOf x) k ≡ false → Shows S g k m A q c → Shows S g k m A (joinAlone b o x q) c
   other-alone true true c x q e s =
-      record { urgent = s .urgent; long = s .long; resolution = s .resolution; owed = rw (ofBy-append (λ (s : Segment). s .message .station) k (q .history) (segment x 1 ∷ []), e, append-nil) (s .owed); fits = s .fits }
+      record { urgent = s .urgent; long = s .long; resolution = s .resolution; owed = rw (ofBy-append (λ (s : Segment). recordOf (s .message)) k (q .history) (segment x 1 ∷ []), e, append-nil) (s .owed); fits = s .fits }
   other-alone false true c x q e s =
       record { urgent = λ i. seen-more (one k) (q .urgent) (x ∷ []) (λ j. seen-one (one k) x j ∙ rw e (first-nil j)) i ∙ s .urgent i; long = s .long; resolution = s .resolution; owed = s .owed; fits = s .fits }
   other-alone b false c x q e s =
@@ -70,14 +70,14 @@ module _ (S : Start) (g k : ℕ) (m : Message) (A : List Segment) where
 
   -- the station's own message, alone in its minislot
   module _ (some : 1 ≤ m .slots) (j t : ℕ) where
-    own-alone : (b o : Bool) (q : Queues) → eqb (m .station) k ≡ true → eqb (m .slots) 1 ≡ o → Shows S g k m A q (Asked g j t) → Shows S g k m A (joinAlone b o m q) (standsAlone b o (lengths q) (m .slots))
+    own-alone : (b o : Bool) (q : Queues) → eqb (recordOf m) k ≡ true → eqb (m .slots) 1 ≡ o → Shows S g k m A q (Asked g j t) → Shows S g k m A (joinAlone b o m q) (standsAlone b o (lengths q) (m .slots))
     own-alone true true q e w s =
         let z : m .slots ≡ 1 = eqb-true (m .slots) 1 w in
         record {
           urgent = s .urgent;
           long = s .long;
           resolution = s .resolution;
-          owed = rw (ofBy-append (λ (s : Segment). s .message .station) k (q .history) (segment m 1 ∷ []), e, append-nil) (ap (λ (n : ℕ). deliveredOf k (q .history) ++ segmentsFrom m n 1) (sym z) ∙ s .owed);
+          owed = rw (ofBy-append (λ (s : Segment). recordOf (s .message)) k (q .history) (segment m 1 ∷ []), e, append-nil) (ap (λ (n : ℕ). deliveredOf k (q .history) ++ segmentsFrom m n 1) (sym z) ∙ s .owed);
           fits = tt;
         }
     own-alone false true q e w s =

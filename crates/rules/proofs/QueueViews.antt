@@ -8,7 +8,7 @@ use native.Mathlib.Nat.{zero-add, suc-add}
 use lib.ListN.{length}
 use Rattle.rules.proofs.Views.{seen, atFirst, shifted, atPlace, run}
 use Rattle.listlaws.specs.Lists.{onlyIf}
-use Rattle.rules.specs.Messages.{Message, of, segmentsFrom}
+use Rattle.rules.specs.Messages.{Message, of, segmentsFrom, recordOf}
 use Rattle.rules.specs.Positions.{part}
 use borrow.Author.Tests.{ne-eqb}
 use lib.Dec.{eqb, eqb·suc-suc}
@@ -66,12 +66,12 @@ place-map f m zero i = rw (ne-eqb zero (suc i) (λ e. omega arith))
 place-map f m (suc n) i = shifted-map f m n i ∙ rw (eqb·suc-suc n i)
 
 -- a whole message's segments, seen by its own station and by another
-pub run-own : (k : ℕ) (m : Message) → eqb (m .station) k ≡ true → (n s i : ℕ) → seen (part k) (segmentsFrom m n s) i ≡ run m n s i
+pub run-own : (k : ℕ) (m : Message) → eqb (recordOf m) k ≡ true → (n s i : ℕ) → seen (part k) (segmentsFrom m n s) i ≡ run m n s i
 run-own k m e zero s i = refl
 run-own k m e (suc n) s zero = rw e
 run-own k m e (suc n) s (suc i) = run-own k m e n (suc s) i
 
-pub run-other : (k : ℕ) (m : Message) → eqb (m .station) k ≡ false → (n s i : ℕ) → seen (part k) (segmentsFrom m n s) i ≡ []
+pub run-other : (k : ℕ) (m : Message) → eqb (recordOf m) k ≡ false → (n s i : ℕ) → seen (part k) (segmentsFrom m n s) i ≡ []
 run-other k m e zero s i = refl
 run-other k m e (suc n) s zero = rw e
 run-other k m e (suc n) s (suc i) = run-other k m e n (suc s) i
@@ -81,16 +81,16 @@ length-segments m zero s = refl
 length-segments m (suc n) s = ap suc (length-segments m n (suc s))
 
 -- a lone sender is the station's own, or another's
-pub lone-own : (k : ℕ) (m n : Message) → of k (n ∷ []) ≡ m ∷ [] → (eqb (n .station) k ≡ true) × (n ≡ m)
-lone-own k m n e = go (eqb (n .station) k) refl
+pub lone-own : (k : ℕ) (m n : Message) → of k (n ∷ []) ≡ m ∷ [] → (eqb (recordOf n) k ≡ true) × (n ≡ m)
+lone-own k m n e = go (eqb (recordOf n) k) refl
   where
-    go : (b : Bool) → eqb (n .station) k ≡ b → (eqb (n .station) k ≡ true) × (n ≡ m)
+    go : (b : Bool) → eqb (recordOf n) k ≡ b → (eqb (recordOf n) k ≡ true) × (n ≡ m)
     go true s = (s, cc)
     go false s = let z : _≡_ {A = ℕ} 0 1 = cc in absurd (omega arith)
 
-pub lone-other : (k : ℕ) (n : Message) → of k (n ∷ []) ≡ [] → eqb (n .station) k ≡ false
-lone-other k n e = go (eqb (n .station) k) refl
+pub lone-other : (k : ℕ) (n : Message) → of k (n ∷ []) ≡ [] → eqb (recordOf n) k ≡ false
+lone-other k n e = go (eqb (recordOf n) k) refl
   where
-    go : (b : Bool) → eqb (n .station) k ≡ b → eqb (n .station) k ≡ false
+    go : (b : Bool) → eqb (recordOf n) k ≡ b → eqb (recordOf n) k ≡ false
     go true s = cc
     go false s = s

@@ -1,25 +1,25 @@
--- The relation, one station and one group at a time: what the station sees of each queue is what its condition says. Assumes nothing.
+-- The relation, one message record and one group at a time: what the record sees of each queue is what its condition says. Assumes nothing.
 use mathlib.Core.Path.{_≡_}
 use mathlib.Core.Bool.{true}
 use mathlib.Core.List.{List, [], _∷_, _++_}
 use Prim.Native.Nat.{ℕ, suc, _+_, _-_, _%_, _≤_, _<_}
 use lib.ListN.{length}
-use Rattle.rules.proofs.Shared.{Table, TableResult}
+use Rattle.rules.proofs.Shared.{Table, TableResult, records}
 use Rattle.rules.proofs.Views.{seen, atFirst, atPlace, run}
 use Rattle.rules.specs.declared.Places.{Places}
 use Rattle.rules.specs.Calls.{Start}
 use Rattle.listlaws.specs.Lists.{onlyIf}
-use Rattle.rules.specs.Messages.{Message, Segment, of, segmentsFrom, deliveredOf}
+use Rattle.rules.specs.Messages.{Message, Segment, of, segmentsFrom, deliveredOf, recordOf, shortRecord, longRecord}
 use Rattle.rules.specs.Plain.{Queues, Plain, PlainResult, among, onChannel}
 use Rattle.rules.specs.Positions.{one, part}
-use Rattle.rules.specs.StationLimits.{Condition, Free, Fresh, Asked, Resolving, Urgent, Long}
+use Rattle.rules.specs.StationLimits.{Condition, Free, Fresh, Asked, Resolving, Urgent, Long, recordsApart}
 use lib.Dec.{eqb}
 
 -- the counters that the plain queues' lengths are
 abbrev pub lengths : Queues → Places
 lengths q = record { urgent = length (q .urgent); long = length (q .long); resolution = length (q .resolution) }
 
--- what a station with message m in a condition must see of each container, by places from 0
+-- what a record with message m in a condition must see of each container, by places from 0
 abbrev pub freshOf : Message → Condition → List Message
 freshOf m Free = []
 freshOf m (Fresh t) = m ∷ []
@@ -60,7 +60,7 @@ longOf m (Resolving h j t) i = []
 longOf m (Urgent j) i = []
 longOf m (Long f l t) i = atPlace f (run m l (suc (t - l))) i
 
--- the segments of a station's message that are still to come, and all segments of some messages
+-- the segments of a record's message that are still to come, and all segments of some messages
 abbrev pub remaining : Message → Condition → List Segment
 remaining m Free = []
 remaining m (Fresh t) = segmentsFrom m (m .slots) 1
@@ -82,7 +82,7 @@ Fits S m (Resolving g i t) = (t ≡ m .slots) × (1 ≤ g) × (g ≤ S .n) × (1
 Fits S m (Urgent i) = (m .slots ≡ 1) × (1 ≤ i)
 Fits S m (Long f l t) = (t ≡ m .slots) × (1 ≤ f) × (1 ≤ l) × (l ≤ t) × (2 ≤ t)
 
--- station k, whose message is m, sees of the queues what condition c says; A is all that it was ever given to send
+-- record k, whose message is m, sees of the queues what condition c says; A is all that it was ever given to send
 pub record Shows (S : Start) (g k : ℕ) (m : Message) (A : List Segment) (q : Queues) (c : Condition) : Type 0 where
   pub urgent : (i : ℕ) → seen (one k) (q .urgent) i ≡ urgentOf m c i
   pub long : (i : ℕ) → seen (part k) (q .long) i ≡ longOf m c i
@@ -92,7 +92,7 @@ pub record Shows (S : Start) (g k : ℕ) (m : Message) (A : List Segment) (q : Q
 
 -- the same of the whole plain channel
 pub record Agrees (S : Start) (p : Plain) (k : ℕ) (m : Message) (c : Condition) : Type 0 where
-  pub mine : m .station ≡ k
+  pub mine : recordOf m ≡ k
   pub some : 1 ≤ m .slots
   pub few : m .slots ≤ 255
   pub fresh : of k (p .fresh) ≡ freshOf m c
@@ -131,8 +131,9 @@ pub record Same (S : Start) (p : Plain) (t : Table) : Type 0 where
   pub crowds : (g : ℕ) → Crowded (p .group g .resolution)
   pub message : ℕ → Message
   pub agrees : (k : ℕ) → Agrees S p k (message k) (t .condition k)
-  pub outside : (k : ℕ) → length (S .indexes) ≤ k → t .condition k ≡ Free
-  pub strangers : (k : ℕ) → length (S .indexes) ≤ k → of k (p .taken) ≡ []
+  pub apart : (k : ℕ) → recordsApart (t .condition (shortRecord k)) (t .condition (longRecord k)) ≡ true
+  pub outside : (k : ℕ) → records S ≤ k → t .condition k ≡ Free
+  pub strangers : (k : ℕ) → records S ≤ k → of k (p .taken) ≡ []
   pub numbered : Numbered 0 (p .taken)
   pub idle : (g : ℕ) → S .n < g → (p .group g .resolution ≡ []) × (p .group g .opened ≡ true)
   pub hmax : length (p .urgent) ≤ 4095

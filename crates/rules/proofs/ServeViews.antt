@@ -12,7 +12,7 @@ use Rattle.rules.proofs.Relation.{Fits, remaining, urgentOf, longOf}
 use Rattle.rules.proofs.Views.{seen}
 use Rattle.rules.specs.Calls.{Start}
 use Rattle.listlaws.specs.Lists.{keepIf, onlyIf}
-use Rattle.rules.specs.Messages.{Message, Segment, segment, segmentsFrom, deliveredOf}
+use Rattle.rules.specs.Messages.{Message, Segment, segment, segmentsFrom, deliveredOf, recordOf}
 use Rattle.rules.specs.Plain.{served}
 use Rattle.rules.specs.Positions.{one, part}
 use Rattle.rules.specs.StationLimits.{Condition, Free, Fresh, Asked, Resolving, Urgent, Long}
@@ -22,25 +22,26 @@ use lib.Dec.{eqb}
 module _ (g j : ℕ) where
   module _ {ℓ} {E : Type ℓ} (W : Condition → E) (fresh : (t : ℕ) → W (Asked g j t) ≡ W (Fresh t)) (near : (h t : ℕ) → eqb h g ≡ true → W (Asked g j t) ≡ W (Resolving h 1 t))
       (down : (h i t : ℕ) → eqb h g ≡ true → W (Resolving h (suc i) t) ≡ W (Resolving h (suc (suc i)) t)) where
-    pub asks-view : (r : ℕ) (c : Condition) → W (asks r g j c) ≡ W c
-    asks-view zero Free = refl
-    asks-view zero (Fresh t) = fresh t
-    asks-view zero (Asked h i t) = refl
-    asks-view zero (Resolving h i t) = refl
-    asks-view zero (Urgent i) = refl
-    asks-view zero (Long f l t) = refl
-    asks-view (suc r) Free = refl
-    asks-view (suc r) (Fresh t) = refl
-    asks-view (suc r) (Asked h i t) = refl
-    asks-view (suc r) (Resolving h i t) = go (eqb h g) refl i
+    pub asks-view : (b : Bool) (r : ℕ) (c : Condition) → W (asks b r g j c) ≡ W c
+    asks-view b zero Free = refl
+    asks-view true zero (Fresh t) = refl
+    asks-view false zero (Fresh t) = fresh t
+    asks-view b zero (Asked h i t) = refl
+    asks-view b zero (Resolving h i t) = refl
+    asks-view b zero (Urgent i) = refl
+    asks-view b zero (Long f l t) = refl
+    asks-view b (suc r) Free = refl
+    asks-view b (suc r) (Fresh t) = refl
+    asks-view b (suc r) (Asked h i t) = refl
+    asks-view b (suc r) (Resolving h i t) = go (eqb h g) refl i
       where
         go : (b : Bool) → eqb h g ≡ b → (i : ℕ) → W (front b g j h i t) ≡ W (Resolving h i t)
         go false e i = refl
         go true e zero = refl
         go true e (suc zero) = near h t e
         go true e (suc (suc i)) = down h i t e
-    asks-view (suc r) (Urgent i) = refl
-    asks-view (suc r) (Long f l t) = refl
+    asks-view b (suc r) (Urgent i) = refl
+    asks-view b (suc r) (Long f l t) = refl
 
 module _ {ℓ} {E : Type ℓ} (W : Condition → E) (u : (i : ℕ) → W (Urgent i) ≡ W Free) (n : (f l t : ℕ) → W (Long f l t) ≡ W Free) where
   pub falls-view : (h k : ℕ) (c : Condition) → W (falls h k c) ≡ W c
@@ -68,25 +69,26 @@ module _ {ℓ} {E : Type ℓ} (W : Condition → E) (u : (i : ℕ) → W (Urgent
 
 -- the limits
 module _ (S : Start) (g j : ℕ) (m : Message) (gl : 1 ≤ g) (gh : g ≤ S .n) (jl : 1 ≤ j) (jh : j ≤ S .m) where
-  pub asks-fits : (r : ℕ) (c : Condition) → Fits S m c → Fits S m (asks r g j c)
-  asks-fits zero Free f = f
-  asks-fits zero (Fresh t) f = omega arith
-  asks-fits zero (Asked h i t) f = f
-  asks-fits zero (Resolving h i t) f = f
-  asks-fits zero (Urgent i) f = f
-  asks-fits zero (Long x l t) f = f
-  asks-fits (suc r) Free f = f
-  asks-fits (suc r) (Fresh t) f = f
-  asks-fits (suc r) (Asked h i t) f = f
-  asks-fits (suc r) (Resolving h i t) f = go (eqb h g) i f
+  pub asks-fits : (b : Bool) (r : ℕ) (c : Condition) → Fits S m c → Fits S m (asks b r g j c)
+  asks-fits b zero Free f = f
+  asks-fits true zero (Fresh t) f = f
+  asks-fits false zero (Fresh t) f = omega arith
+  asks-fits b zero (Asked h i t) f = f
+  asks-fits b zero (Resolving h i t) f = f
+  asks-fits b zero (Urgent i) f = f
+  asks-fits b zero (Long x l t) f = f
+  asks-fits b (suc r) Free f = f
+  asks-fits b (suc r) (Fresh t) f = f
+  asks-fits b (suc r) (Asked h i t) f = f
+  asks-fits b (suc r) (Resolving h i t) f = go (eqb h g) i f
     where
       go : (b : Bool) (i : ℕ) → Fits S m (Resolving h i t) → Fits S m (front b g j h i t)
       go false i f = f
       go true zero f = f
       go true (suc zero) f = omega arith
       go true (suc (suc i)) f = omega arith
-  asks-fits (suc r) (Urgent i) f = f
-  asks-fits (suc r) (Long x l t) f = f
+  asks-fits b (suc r) (Urgent i) f = f
+  asks-fits b (suc r) (Long x l t) f = f
 
 pub falls-fits : (S : Start) (m : Message) (h k : ℕ) (c : Condition) → Fits S m c → Fits S m (falls h k c)
 falls-fits S m h k Free f = f
@@ -114,21 +116,21 @@ falls-fits S m (suc h) k (Long x l t) f = f
 -- what the queues deliver of a station is what its condition then lacks; in an owned slot they deliver nothing
 module _ (k : ℕ) (m : Message) where
   not-first : (x : Message) → one k x ≡ [] → deliveredOf k (segment x 1 ∷ []) ≡ []
-  not-first x e = go (eqb (x .station) k) e
+  not-first x e = go (eqb (recordOf x) k) e
     where
       go : (b : Bool) → onlyIf b (x ∷ []) ≡ [] → keepIf b (segment x 1) [] ≡ []
       go true e = let z : _≡_ {A = ℕ} 0 1 = cc in absurd (omega arith)
       go false e = refl
 
   is-first : (x : Message) → one k x ≡ m ∷ [] → deliveredOf k (segment x 1 ∷ []) ≡ segment m 1 ∷ []
-  is-first x e = go (eqb (x .station) k) e
+  is-first x e = go (eqb (recordOf x) k) e
     where
       go : (b : Bool) → onlyIf b (x ∷ []) ≡ m ∷ [] → keepIf b (segment x 1) [] ≡ segment m 1 ∷ []
       go true e = let z : x ≡ m = cc in rw z
       go false e = let z : _≡_ {A = ℕ} 0 1 = cc in absurd (omega arith)
 
   first-part : (s : Segment) (l : List Segment) → part k s ≡ l → deliveredOf k (s ∷ []) ≡ l
-  first-part s l e = go (eqb (s .message .station) k) e
+  first-part s l e = go (eqb (recordOf (s .message)) k) e
     where
       go : (b : Bool) → onlyIf b (s ∷ []) ≡ l → keepIf b s [] ≡ l
       go true e = e

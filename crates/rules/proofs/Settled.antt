@@ -1,7 +1,7 @@
--- Step 1 for a station by its own minislot alone: the lengths before that minislot and what is heard there. It is the look-up of specs/Stepping in the row's
+-- Step 1 for a message by its own minislot alone: the lengths before that minislot and what is heard there. It is the look-up of specs/Stepping in the row's
 -- landings (`settled-same`), so a station's step by the outcome is its steps 1 to 5 (`step-is`). Assumes nothing.
 use mathlib.Core.Path.{_≡_, refl, ap, _∙_}
-use mathlib.Core.Bool.{Bool, true, false, cond}
+use mathlib.Core.Bool.{Bool, true, false, _&&_, cond}
 use mathlib.Core.List.{List, [], _∷_}
 use Prim.Native.Nat.{ℕ, zero, suc, _+_, _-_, _≤_}
 use native.Mathlib.Omega.{arith}
@@ -16,15 +16,16 @@ use Rattle.rules.specs.Queueing.{queued, queuedRow, placesBefore, places
 use Rattle.rules.specs.declared.Landed.{Landed}
 use Rattle.rules.specs.declared.Station.{Station}
 use Rattle.rules.specs.declared.StationSlot.{StationSlot}
-use Rattle.rules.specs.declared.SlotAnswer.the-variants.{Went}
 use Rattle.rules.specs.Calendars.{ownerOf}
+use Rattle.rules.specs.declared.SlotAnswer.the-variants.{Went}
 use Rattle.rules.specs.Turns.{turnOf}
 use Rattle.rules.specs.Falling.{fallen}
 use Rattle.rules.specs.Landing.{Gone, landsAlone, landsAfter, at, landings, stands}
 use Rattle.rules.specs.Requesting.{requests, requested}
 use Rattle.rules.specs.Serving.{sends, moved}
 use Rattle.rules.specs.Outcome.{outcomeBy, outcomeOf}
-use Rattle.rules.specs.Stepping.{settledIn, requestMinislot, actsOf, stepOf}
+use Rattle.rules.specs.Stepping.{settledIn, requestMinislot, actsOf, actsBeside, stays, isFresh, asker, sender, requestTotal, stepOf}
+use Rattle.rules.specs.declared.Acted.{Acted}
 
 -- a Single: whether success would be immediate, whether its count is 1; p is the lengths before its minislot, t its total
 abbrev pub standsAlone : Bool → Bool → Places → ℕ → Condition
@@ -95,32 +96,52 @@ settled-same b g p row n (Resolving x i t) h = refl
 settled-same b g p row n (Urgent i) h = refl
 settled-same b g p row n (Long f l t) h = refl
 
--- ---- a station's step, from its own counters and the row
+-- ---- a station's step, from its own counters and the row: what a message in a condition does, and so both records
 
-abbrev pub conditionAfter : Station → List Feedback → ℕ → Condition
-conditionAfter s row pick =
-    moved (turnOf (ownerOf (s .counters)) (placesAfter (s .counters) row))
-    (requested (placesAfter (s .counters) row .resolution) (s .counters .next) pick (settledOf (s .counters) row (s .condition)))
+abbrev pub conditionAfter : Counters → List Feedback → ℕ → Condition → Condition
+conditionAfter c row pick k =
+    moved (turnOf (ownerOf c) (placesAfter c row)) (requested (placesAfter c row .resolution) (c .next) pick (settledOf c row k))
 
-abbrev pub requesting : Station → List Feedback → Bool
-requesting s row = requests (placesAfter (s .counters) row .resolution) (s .counters .next) (settledOf (s .counters) row (s .condition))
+abbrev pub requesting : Counters → List Feedback → Condition → Bool
+requesting c row k = requests (placesAfter c row .resolution) (c .next) (settledOf c row k)
 
-abbrev pub segmentSent : Station → List Feedback → ℕ
-segmentSent s row =
-    sends (turnOf (ownerOf (s .counters)) (placesAfter (s .counters) row)) (placesAfter (s .counters) row .resolution) (s .counters .next)
-    (settledOf (s .counters) row (s .condition))
+abbrev pub segmentSent : Counters → List Feedback → Condition → ℕ
+segmentSent c row k = sends (turnOf (ownerOf c) (placesAfter c row)) (placesAfter c row .resolution) (c .next) (settledOf c row k)
+
+unfoldable pub actedBy : Counters → List Feedback → ℕ → Condition → Acted
+actedBy c row pick k =
+    record {
+      condition = conditionAfter c row pick k;
+      minislot = requestMinislot (requesting c row k) pick;
+      segment = segmentSent c row k;
+    }
+
+unfoldable pub besideBy : Counters → List Feedback → ℕ → Condition → Condition → Acted
+besideBy c row pick a b = cond (isFresh a && isFresh b) (stays b) (actedBy c row pick b)
 
 unfoldable pub stationAfter : Station → List Feedback → ℕ → Station
 stationAfter s row pick =
-    record { counters = fallen (s .counters) (placesAfter (s .counters) row); index = s .index; condition = conditionAfter s row pick }
+    record {
+      counters = fallen (s .counters) (placesAfter (s .counters) row);
+      index = s .index;
+      short = record { condition = actedBy (s .counters) row pick (s .short .condition) .condition };
+      long = record { condition = besideBy (s .counters) row pick (s .short .condition) (s .long .condition) .condition };
+    }
 
 abbrev pub wentBy : Station → List Feedback → ℕ → StationSlot
 wentBy s row pick =
+    let x = actedBy (s .counters) row pick (s .short .condition) in
+    let y = besideBy (s .counters) row pick (s .short .condition) (s .long .condition) in
     record {
-      answer = Went (turnOf (ownerOf (s .counters)) (placesAfter (s .counters) row)) (requestMinislot (requesting s row) pick) (segmentSent s row);
+      answer = Went (turnOf (ownerOf (s .counters)) (placesAfter (s .counters) row)) (asker x y .minislot) (sender x y .segment);
+      request = requestTotal (asker x y);
       station = stationAfter s row pick;
     }
 
+pub acts-is : (c : Counters) (row : List Feedback) (pick : ℕ) (k : Condition) → length row ≤ 8 → actsOf (outcomeOf c row) k pick ≡ actedBy c row pick k
+unfolding actsOf outcomeBy stepOneOf actedBy
+acts-is c row pick k h = rw (settled-same (immediateOf c row) (c .next) (placesOf c) row 8 k h)
+
 pub step-is : (s : Station) (row : List Feedback) (pick : ℕ) → length row ≤ 8 → stepOf (outcomeOf (s .counters) row) s pick ≡ wentBy s row pick
-unfolding stepOf actsOf outcomeBy stepOneOf stationAfter
-step-is s row pick h = rw (settled-same (immediateOf (s .counters) row) (s .counters .next) (placesOf (s .counters)) row 8 (s .condition) h)
+unfolding stepOf actsBeside besideBy outcomeBy stepOneOf stationAfter
+step-is s row pick h = rw (acts-is (s .counters) row pick (s .short .condition) h, acts-is (s .counters) row pick (s .long .condition) h)

@@ -1,5 +1,5 @@
--- The table as one set of counters that all stations share and a condition for each position, and its calls: the middle between the plain channel and
--- the records. What is read of the wire is stated of the stations asked there. Assumes nothing.
+-- The table as one set of counters that all stations share and a condition for each message record, and its calls: the middle between the plain channel
+-- and the stations. What is read of the wire is stated of the records asked there. Assumes nothing.
 use mathlib.Core.Bool.{Bool, true, _&&_, cond}
 use mathlib.Core.List.{List, [], _∷_, _++_}
 use mathlib.Core.Option.{Option, none, some}
@@ -8,7 +8,7 @@ use lib.Dec.{eqb}
 use lib.ListN.{length, getD}
 use Rattle.minislot.specs.declared.Feedback.{Feedback}
 use Rattle.rows.specs.Row.{weight}
-use Rattle.message.specs.Message.{fitsMessage, slotsFor}
+use Rattle.message.specs.Message.{fitsMessage, fitsShort, slotsFor}
 use Rattle.rules.specs.declared.Places.{Places}
 use Rattle.listlaws.specs.Lists.{onlyIf}
 use Rattle.rules.specs.Calendars.{freeEntry, freeCalendar, ownerIn, positionAfter}
@@ -19,7 +19,10 @@ use Rattle.rules.specs.StationLimits.{Condition, Free, Fresh, Asked, Res
 use Rattle.rules.specs.StationCalls.{isFree}
 use Rattle.rules.specs.Calls.{Start, index, Answer, Refused, Taken, Set, Went, Call, Offer, Slot, Calendar}
 use Rattle.rules.specs.Plain.{stationFrom, inRange, among, onChannel}
+use Rattle.rules.specs.Messages.{shortRecord, longRecord}
+use Rattle.rules.specs.Stepping.{isFresh}
 use Rattle.rules.proofs.Views.{Sender, senderAt}
+use Rattle.rules.proofs.Records.{holder, isLongRecord}
 use Rattle.rules.proofs.Clauses.{hearing, loneIndexOf, loneNumberOf, settle, asks, falls, sendsIn, serves, heeded, hLeft, nLeft, less, ownedOr}
 use Rattle.rules.specs.Outcome.{successes}
 
@@ -40,7 +43,7 @@ pub record TableResult : Type 0 where
 abbrev pub tableStart : Table
 tableStart = record { h = 0; n = 0; rq = λ g. 0; opened = λ g. true; next = 1; calendar = freeCalendar; position = 0; condition = λ k. Free }
 
--- a walk over the stations, in order: n of them from station j on; all that are below K
+-- a walk over the records, in order: n of them from record j on; all that are below K
 abbrev pub collect {ℓ} : {A : Type ℓ} → (ℕ → List A) → ℕ → ℕ → List A
 collect f zero j = []
 collect f (suc n) j = f j ++ collect f n (suc j)
@@ -48,7 +51,18 @@ collect f (suc n) j = f j ++ collect f n (suc j)
 abbrev pub gather {ℓ} : {A : Type ℓ} → (ℕ → List A) → ℕ → List A
 gather f K = collect f K 0
 
--- the station asked in minislot j of group g, and the row that the wire holds of the group: n minislots from j
+-- the two records of a station, first the short one
+abbrev pub pairOf {ℓ} : {A : Type ℓ} → (ℕ → List A) → ℕ → List A
+pairOf f k = f (shortRecord k) ++ f (longRecord k)
+
+-- how many records the stations have, and the index that a record sends
+abbrev pub records : Start → ℕ
+records S = shortRecord (length (S .indexes))
+
+abbrev pub indexOf : Start → ℕ → ℕ
+indexOf S k = index S (holder k)
+
+-- the record asked in minislot j of group g, and the row that the wire holds of the group: n minislots from j
 abbrev pub askedSender : ℕ → ℕ → ℕ → Condition → List Sender
 askedSender g j k Free = []
 askedSender g j k (Fresh t) = []
@@ -60,6 +74,10 @@ askedSender g j k (Long f l t) = []
 abbrev pub askedRow : (ℕ → ℕ) → ℕ → (ℕ → Condition) → ℕ → ℕ → ℕ → List Feedback
 askedRow ix K condition g zero j = []
 askedRow ix K condition g (suc n) j = hearing ix (gather (λ k. askedSender g j k (condition k)) K) ∷ askedRow ix K condition g n (suc j)
+
+-- the same of a station, whichever of its records is asked there
+abbrev pub askedPair : ℕ → (ℕ → Condition) → ℕ → ℕ → List Sender
+askedPair g condition j k = pairOf (λ r. askedSender g j r (condition r)) k
 
 abbrev pub senderIf : ℕ → ℕ → List Sender
 senderIf k zero = []
@@ -85,10 +103,16 @@ tableAccept t k s =
       answer = Taken s;
     }
 
+-- the record of station k that a message of this many bytes is for
+abbrev pub recordTaking : ℕ → ℕ → ℕ
+recordTaking k bytes = cond (fitsShort bytes) (shortRecord k) (longRecord k)
+
 abbrev pub tableOffer : Table → ℕ → Option ℕ → TableResult
 tableOffer t bytes none = tableRefuse t 16
 tableOffer t bytes (some k) =
-    cond (isFree (t .condition k)) (cond (fitsMessage bytes) (tableAccept t k (slotsFor bytes)) (tableRefuse t 10)) (tableRefuse t 9)
+    cond (fitsMessage bytes)
+    (cond (isFree (t .condition (recordTaking k bytes))) (tableAccept t (recordTaking k bytes) (slotsFor bytes)) (tableRefuse t 9))
+    (tableRefuse t 10)
 
 abbrev pub tableSet : Table → List ℕ → TableResult
 tableSet t entries =
@@ -113,7 +137,7 @@ tableOwner t = ownerIn (getD (t .calendar) (t .position) freeEntry)
 
 -- the row, the immediate success, and the lengths before and after step 1
 abbrev pub tableRow : Start → Table → List Feedback
-tableRow S t = askedRow (index S) (length (S .indexes)) (t .condition) (t .next) (S .m) 1
+tableRow S t = askedRow (indexOf S) (records S) (t .condition) (t .next) (S .m) 1
 
 abbrev pub tablePlaces : Table → Places
 tablePlaces t = record { urgent = t .h; long = t .n; resolution = t .rq (t .next) }
@@ -121,11 +145,15 @@ tablePlaces t = record { urgent = t .h; long = t .n; resolution = t .rq (t .next
 abbrev pub tableSuccess : Table → List Feedback → Bool
 tableSuccess t heard = immediate (t .opened (t .next)) (weight heard)
 
+-- whether a record's message is held back if it is fresh: a long one, by a fresh short one of its station
+abbrev pub tableHeld : Table → ℕ → Bool
+tableHeld t k = isLongRecord k && isFresh (t .condition (shortRecord (holder k)))
+
 -- one slot, from the row heard, step 1's success and its lengths
 abbrev pub tableCondition : (ℕ → ℕ) → Table → List Feedback → Bool → Places → ℕ → Condition
 tableCondition pick t heard b c k =
     falls (heeded (tableOwner t) (c .urgent)) (heeded (tableOwner t) (c .long))
-    (asks (c .resolution) (t .next) (pick k) (settle b (t .next) heard (tablePlaces t) (t .condition k)))
+    (asks (tableHeld t k) (c .resolution) (t .next) (pick (holder k)) (settle b (t .next) heard (tablePlaces t) (t .condition k)))
 
 abbrev pub tableWent : Start → (ℕ → ℕ) → Table → List Feedback → Bool → Places → Table
 tableWent S pick t heard b c =
@@ -146,10 +174,10 @@ tableSends t heard b c k =
 
 abbrev pub tableAnswer : Start → Table → List Feedback → Bool → Places → Answer
 tableAnswer S t heard b c =
-    let x = gather (λ k. senderIf k (tableSends t heard b c k)) (length (S .indexes)) in
+    let x = gather (λ k. senderIf k (tableSends t heard b c k)) (records S) in
     let o = tableOwner t in
-    Went (turnOf o c) (ownedOr o (λ i. 1) (length x)) (ownedOr o (λ i. i) (loneIndexOf (hearing (index S) x)))
-    (ownedOr o (λ i. 0) (loneNumberOf (hearing (index S) x))) (successes b heard + serves (heeded o (c .urgent)) (heeded o (c .long)))
+    Went (turnOf o c) (ownedOr o (λ i. 1) (length x)) (ownedOr o (λ i. i) (loneIndexOf (hearing (indexOf S) x)))
+    (ownedOr o (λ i. 0) (loneNumberOf (hearing (indexOf S) x))) (successes b heard + serves (heeded o (c .urgent)) (heeded o (c .long)))
 
 abbrev pub tableSlot : Start → (ℕ → ℕ) → Table → List Feedback → Bool → Places → TableResult
 tableSlot S pick t heard b c = record { state = tableWent S pick t heard b c; answer = tableAnswer S t heard b c }

@@ -12,20 +12,25 @@ use lib.ListN.{length, length-append, length-map}
 use Rattle.rules.proofs.Newcomers.{row-lengths}
 use Rattle.rules.proofs.AskedRows.{row-eq, weight-eq}
 use Rattle.rules.proofs.SettleViews.{settle-fresh}
+use Rattle.rules.proofs.Records.{holder, isLongRecord, holder-short, holder-long, kind-short, kind-long, holder-of}
+use Rattle.rules.proofs.QueueViews.{shifted-at}
+use Rattle.rules.proofs.AskViews.{heldIn}
+use Rattle.rules.proofs.Parting.{standsIn, no-true, slot-apart}
 use Rattle.rules.proofs.OneStation.{first, later, first-ok, station-ok}
 use Rattle.rules.proofs.DataSenders.{send-ok, senders-read, senders-length}
 use Rattle.minislot.specs.declared.Feedback.{Feedback}
 use Rattle.rules.proofs.Clauses.{less, read, settle, asks, serves, heeded, hLeft, nLeft, sendsIn, ownedOr, hearing, loneIndexOf, loneNumberOf}
-use Rattle.rules.proofs.Relation.{lengths, Fits, Agrees, Same, Crowded, Shows, whole}
-use Rattle.rules.proofs.Shared.{Table, tableOwner, tableRow, tablePlaces, tableSuccess, tableSettled, tableCondition, tableWent, tableSends, tableAnswer, gather, senderIf}
-use Rattle.rules.proofs.Views.{Sender, dataFrom}
+use Rattle.rules.proofs.Relation.{lengths, Fits, Agrees, Same, Crowded, Shows, whole, freshOf}
+use Rattle.rules.proofs.Shared.{Table, tableOwner, tableRow, tablePlaces, tableSuccess, tableSettled, tableCondition, tableWent, tableSends, tableAnswer, tableHeld, gather, senderIf, records, indexOf}
+use Rattle.rules.proofs.Views.{Sender, dataFrom, seen, nil-cons}
 use Rattle.rules.specs.Calendars.{positionAfter}
 use Rattle.rules.specs.Calls.{Start, index, Went}
 use Rattle.rules.specs.Falling.{following}
-use Rattle.rules.specs.Messages.{Message, Segment, ofBy, of}
-use Rattle.rules.specs.Plain.{Queues, Plain, joinAlone, joinMinislot, joinRow, queuesOf, plainSuccess, plainSettled, overflows, plainOwner, renewed, plainMark, nextGroup, plainWent, plainSenders, plainLoneIndex, plainLoneSegment, plainAnswer, grown, plainTurn, served, sent, rest, urgentLeft, longLeft, askingRow}
+use Rattle.rules.specs.Messages.{Message, Segment, ofBy, of, shortRecord, longRecord}
+use Rattle.rules.specs.Plain.{Queues, Plain, joinAlone, joinMinislot, joinRow, queuesOf, plainSuccess, plainSettled, overflows, plainOwner, renewed, plainMark, nextGroup, plainWent, plainSenders, plainLoneIndex, plainLoneSegment, plainAnswer, grown, plainTurn, served, sent, rest, urgentLeft, longLeft, askingRow, someOf}
 use Rattle.rules.specs.Queueing.{queuedRow, passes}
-use Rattle.rules.specs.StationLimits.{Free}
+use Rattle.rules.specs.StationLimits.{Condition, Free, Fresh, Asked, Resolving, Urgent, Long, recordsApart}
+use Rattle.rules.specs.Stepping.{isFresh}
 use Rattle.rules.specs.Turns.{Turn, OwnedTurn, UrgentTurn, LongTurn, ResolveTurn, OpenTurn, isOpen, turnOf}
 use Rattle.rules.specs.declared.Places.{Places}
 use Rattle.rules.specs.Outcome.{successes}
@@ -104,9 +109,23 @@ rest-crowd : (r : List (List Message)) → Crowded r → Crowded (rest r)
 rest-crowd [] c = tt
 rest-crowd (x ∷ r) c = c .1
 
-asks-free : (r g j : ℕ) → asks r g j Free ≡ Free
-asks-free zero g j = refl
-asks-free (suc r) g j = refl
+asks-free : (b : Bool) (r g j : ℕ) → asks b r g j Free ≡ Free
+asks-free b zero g j = refl
+asks-free b (suc r) g j = refl
+
+-- what a record's place says of its queue's length
+seen-inside {ℓ κ} : {A : Type ℓ} {E : Type κ} (f : A → List E) (q : List A) (i : ℕ) (x : E) → seen f q i ≡ x ∷ [] → i < length q
+seen-inside f [] i x e = absurd (nil-cons e)
+seen-inside f (y ∷ q) zero x e = omega arith
+seen-inside f (y ∷ q) (suc i) x e = omega (arith, seen-inside f q i x e)
+
+some-fresh : (m : Message) (c : Condition) → someOf (freshOf m c) ≡ isFresh c
+some-fresh m Free = refl
+some-fresh m (Fresh t) = refl
+some-fresh m (Asked g j t) = refl
+some-fresh m (Resolving g i t) = refl
+some-fresh m (Urgent i) = refl
+some-fresh m (Long f l t) = refl
 
 -- the next group: the same on both sides, and within the groups
 next-eq : (n g : ℕ) → g ≤ n → following n g ≡ nextGroup n g
@@ -188,19 +207,19 @@ count-eq : (o : Option ℕ) (l : List Segment) → plainSenders o l ≡ ownedOr 
 count-eq (some x) l = refl
 count-eq none l = refl
 
-lone-index : (S : Start) (o : Option ℕ) (l : List Segment) → plainLoneIndex S o l ≡ ownedOr o (λ i. i) (loneIndexOf (hearing (index S) (map dataFrom l)))
+lone-index : (S : Start) (o : Option ℕ) (l : List Segment) → plainLoneIndex S o l ≡ ownedOr o (λ i. i) (loneIndexOf (hearing (indexOf S) (map dataFrom l)))
 lone-index S (some x) l = refl
 lone-index S none [] = refl
-lone-index S none (s ∷ []) = refl
+lone-index S none (s ∷ []) = ap (index S) (sym (holder-of (s .message)))
 lone-index S none (s ∷ t ∷ l) = refl
 
-lone-number : (S : Start) (l : List Segment) → plainLoneSegment l ≡ loneNumberOf (hearing (index S) (map dataFrom l))
+lone-number : (S : Start) (l : List Segment) → plainLoneSegment l ≡ loneNumberOf (hearing (indexOf S) (map dataFrom l))
 lone-number S [] = refl
 lone-number S (s ∷ []) = refl
 lone-number S (s ∷ t ∷ l) = refl
 
 lone-segment : (S : Start) (o : Option ℕ) (u : List Message) (l : List Segment) (r : List (List Message)) (f : List Message)
-    → plainLoneSegment (sent o u l r f) ≡ ownedOr o (λ i. 0) (loneNumberOf (hearing (index S) (map dataFrom (sent o u l r f))))
+    → plainLoneSegment (sent o u l r f) ≡ ownedOr o (λ i. 0) (loneNumberOf (hearing (indexOf S) (map dataFrom (sent o u l r f))))
 lone-segment S (some x) u l r f = refl
 lone-segment S none u l r f = lone-number S (sent none u l r f)
 
@@ -225,33 +244,55 @@ module _ (S : Start) (p : Plain) (t : Table) (R : Same S p t) where
   owner-eq = rw (R .calendar, R .position)
 
   -- what the table hears and counts is what the plain channel has
-  pub heard-eq : tableRow S t ≡ map (read (index S)) (p .group (p .next) .asking)
+  pub heard-eq : tableRow S t ≡ map (read (indexOf S)) (p .group (p .next) .asking)
   heard-eq = rw (R .next) (rw (← (R .rows (p .next))) (row-eq S p (t .condition) (R .message) (R .outside) (R .agrees) (p .next)))
 
   counts-eq : tablePlaces t ≡ lengths (queuesOf p (p .group (p .next)))
   counts-eq = rw (R .next, R .h, R .n, R .rq (p .next))
 
   success-eq : tableSuccess t (tableRow S t) ≡ plainSuccess (p .group (p .next))
-  success-eq = rw (heard-eq, weight-eq (index S) (p .group (p .next) .asking), R .next, R .opened (p .next))
+  success-eq = rw (heard-eq, weight-eq (indexOf S) (p .group (p .next) .asking), R .next, R .opened (p .next))
+
+  -- who is held back, and places within their queue
+  held-eq : (k : ℕ) → tableHeld t k ≡ heldIn (p .fresh) k
+  held-eq k =
+      ap (λ (b : Bool). isLongRecord k && b)
+      (sym (ap someOf (R .agrees (shortRecord (holder k)) .fresh) ∙ some-fresh (R .message (shortRecord (holder k))) (t .condition (shortRecord (holder k)))))
+
+  pub stands-inside : (g k i : ℕ) → standsIn g i (t .condition k) ≡ true → i ≤ t .rq g
+  stands-inside g k i e = go (t .condition k) (R .agrees k) e
+    where
+      go : (c : Condition) → Agrees S p k (R .message k) c → standsIn g i c ≡ true → i ≤ t .rq g
+      go Free a e = absurd (no-true e)
+      go (Fresh x) a e = absurd (no-true e)
+      go (Asked h j x) a e = absurd (no-true e)
+      go (Resolving h zero x) a e = let f : Fits S (R .message k) (Resolving h zero x) = a .fits in absurd (omega arith)
+      go (Resolving h (suc j) x) a e =
+          let (q, w) = and-both (eqb h g) (eqb (suc j) i) e in
+          let z : suc j ≡ i = eqb-true (suc j) i w in
+          let l = seen-inside (of k) (p .group g .resolution) j (R .message k) (a .resolution g j ∙ rw q (shifted-at j (R .message k ∷ []))) in
+          rw (R .rq g) (omega arith)
+      go (Urgent j) a e = absurd (no-true e)
+      go (Long f l x) a e = absurd (no-true e)
 
   pub settled-eq : tableSettled S t ≡ lengths (plainSettled p)
   settled-eq =
       ap (λ (b : Bool). queuedRow b (tablePlaces t) (tableRow S t)) success-eq
       ∙ ap (λ (r : List Feedback). queuedRow (plainSuccess (p .group (p .next))) (tablePlaces t) r) heard-eq
-      ∙ ap (λ (c : Places). queuedRow (plainSuccess (p .group (p .next))) c (map (read (index S)) (p .group (p .next) .asking))) counts-eq
-      ∙ sym (row-lengths (plainSuccess (p .group (p .next))) (index S) (p .group (p .next) .asking) (queuesOf p (p .group (p .next))))
+      ∙ ap (λ (c : Places). queuedRow (plainSuccess (p .group (p .next))) c (map (read (indexOf S)) (p .group (p .next) .asking))) counts-eq
+      ∙ sym (row-lengths (plainSuccess (p .group (p .next))) (indexOf S) (p .group (p .next) .asking) (queuesOf p (p .group (p .next))))
 
 module _ (S : Start) (pick : ℕ → ℕ) (jl : (k : ℕ) → 1 ≤ pick k) (jh : (k : ℕ) → pick k ≤ S .m) (p : Plain) (t : Table) (R : Same S p t) where
-  module _ (heard : List Feedback) (b : Bool) (c : Places) (eh : heard ≡ map (read (index S)) (p .group (p .next) .asking)) (eb : b ≡ plainSuccess (p .group (p .next))) (ec : c ≡ lengths (plainSettled p)) where
+  module _ (heard : List Feedback) (b : Bool) (c : Places) (eh : heard ≡ map (read (indexOf S)) (p .group (p .next) .asking)) (eb : b ≡ plainSuccess (p .group (p .next))) (ec : c ≡ lengths (plainSettled p)) where
     first-eq : (k : ℕ) → settle b (t .next) heard (tablePlaces t) (t .condition k) ≡ first S p (t .condition k)
     first-eq k =
         ap (λ (x : Bool). settle x (t .next) heard (tablePlaces t) (t .condition k)) eb
         ∙ ap (λ (x : List Feedback). settle (plainSuccess (p .group (p .next))) (t .next) x (tablePlaces t) (t .condition k)) eh
-        ∙ ap (λ (x : Places). settle (plainSuccess (p .group (p .next))) (t .next) (map (read (index S)) (p .group (p .next) .asking)) x (t .condition k)) (counts-eq S p t R)
-        ∙ ap (λ (x : ℕ). settle (plainSuccess (p .group (p .next))) x (map (read (index S)) (p .group (p .next) .asking)) (lengths (queuesOf p (p .group (p .next)))) (t .condition k)) (R .next)
+        ∙ ap (λ (x : Places). settle (plainSuccess (p .group (p .next))) (t .next) (map (read (indexOf S)) (p .group (p .next) .asking)) x (t .condition k)) (counts-eq S p t R)
+        ∙ ap (λ (x : ℕ). settle (plainSuccess (p .group (p .next))) x (map (read (indexOf S)) (p .group (p .next) .asking)) (lengths (queuesOf p (p .group (p .next)))) (t .condition k)) (R .next)
 
     condition-eq : (k : ℕ) → tableCondition pick t heard b c k ≡ later pick p k (plainSettled p) (first S p (t .condition k))
-    condition-eq k = rw (first-eq k, ec, R .next, owner-eq S p t R)
+    condition-eq k = rw (first-eq k, ec, R .next, owner-eq S p t R, held-eq S p t R k)
 
     went-same : overflows (plainSettled p) ≡ false → Same S (plainWent S pick p (plainSettled p)) (tableWent S pick t heard b c)
     went-same inside =
@@ -271,8 +312,9 @@ module _ (S : Start) (pick : ℕ → ℕ) (jl : (k : ℕ) → 1 ≤ pick k) (jh 
           rows = λ g. go-rows g (eqb g (p .next));
           crowds = λ g. go-crowds g (eqb g (p .next));
           message = R .message;
-          agrees = λ k. subst (Agrees S (plainWent S pick p (plainSettled p)) k (R .message k)) (sym (condition-eq k)) (station-ok S pick p k (R .message k) R.low R.high (jl k) (jh k) (t .condition k) (R .agrees k));
-          outside = λ k l. condition-eq k ∙ rw (R .outside k l, asks-free (length (plainSettled p .resolution)) (p .next) (pick k));
+          agrees = λ k. subst (Agrees S (plainWent S pick p (plainSettled p)) k (R .message k)) (sym (condition-eq k)) (station-ok S pick p k (R .message k) R.low R.high (jl (holder k)) (jh (holder k)) (t .condition k) (R .agrees k));
+          apart = λ k. stay-apart k;
+          outside = λ k l. condition-eq k ∙ rw (R .outside k l, asks-free (heldIn (p .fresh) k) (length (plainSettled p .resolution)) (p .next) (pick (holder k)));
           strangers = R .strangers;
           numbered = R .numbered;
           idle = λ g l. go-idle g l (eqb g (p .next)) refl;
@@ -281,6 +323,13 @@ module _ (S : Start) (pick : ℕ → ℕ) (jl : (k : ℕ) → 1 ≤ pick k) (jh 
           rmax = λ g. go-rmax g (eqb g (p .next));
         }
       where
+        stay-apart : (k : ℕ) → recordsApart (tableCondition pick t heard b c (shortRecord k)) (tableCondition pick t heard b c (longRecord k)) ≡ true
+        stay-apart k =
+            rw (kind-short k, kind-long k, holder-short k, holder-long k)
+            (slot-apart b (t .next) heard (tablePlaces t) (c .resolution) (pick k) (heeded (tableOwner t) (c .urgent)) (heeded (tableOwner t) (c .long))
+            (t .condition (shortRecord k)) (t .condition (longRecord k))
+            (stands-inside S p t R (t .next) (shortRecord k)) (stands-inside S p t R (t .next) (longRecord k)) (R .apart k))
+
         go-rq : (g : ℕ) (b : Bool) → cond b (less (length (plainSettled p .resolution))) (t .rq g) ≡ length ((cond b (renewed S pick p (plainSettled p)) (p .group g)) .resolution)
         go-rq g true = length-rest (plainSettled p .resolution)
         go-rq g false = R .rq g
@@ -316,29 +365,29 @@ module _ (S : Start) (pick : ℕ → ℕ) (jl : (k : ℕ) → 1 ≤ pick k) (jh 
     each : (k : ℕ) → ofBy (λ s. s .position) k (sentBy p) ≡ senderIf k (tableSends t heard b c k)
     each k =
         rw (first-eq k, ec, owner-eq S p t R)
-        (send-ok S k (R .message k) (plainOwner p) (plainSettled p .urgent) (plainSettled p .long) (plainSettled p .resolution) (p .fresh) (first S p (t .condition k)) s.fits (s .urgent zero) (s .long zero)
+        (send-ok S k (R .message k) (plainOwner p) (plainSettled p .urgent) (plainSettled p .long) (plainSettled p .resolution) (p .fresh) (first S p (t .condition k)) (R .agrees k .mine) s.fits (s .urgent zero) (s .long zero)
         (R .agrees k .fresh
-        ∙ sym (settle-fresh (plainSuccess (p .group (p .next))) (p .next) (map (read (index S)) (p .group (p .next) .asking)) (lengths (queuesOf p (p .group (p .next)))) (R .message k) (t .condition k))))
+        ∙ sym (settle-fresh (plainSuccess (p .group (p .next))) (p .next) (map (read (indexOf S)) (p .group (p .next) .asking)) (lengths (queuesOf p (p .group (p .next)))) (R .message k) (t .condition k))))
       where
         s : Shows S (p .next) k (R .message k) (whole (of k (p .taken))) (plainSettled p) (first S p (t .condition k))
-        s = first-ok S pick p k (R .message k) R.low R.high (jl k) (jh k) (t .condition k) (R .agrees k)
+        s = first-ok S pick p k (R .message k) R.low R.high (jl (holder k)) (jh (holder k)) (t .condition k) (R .agrees k)
 
-    silent : (k : ℕ) → length (S .indexes) ≤ k → tableSends t heard b c k ≡ 0
+    silent : (k : ℕ) → records S ≤ k → tableSends t heard b c k ≡ 0
     silent k l = rw (R .outside k l) (sends-free (tableOwner t) (c .urgent) (c .long) (c .resolution))
 
-    answer-senders : length (segmentsSent p) ≡ length (gather (λ k. senderIf k (tableSends t heard b c k)) (length (S .indexes)))
-    answer-senders = sym (length-map (segmentsSent p) dataFrom) ∙ senders-length (length (S .indexes)) (sentBy p) (tableSends t heard b c) silent each
+    answer-senders : length (segmentsSent p) ≡ length (gather (λ k. senderIf k (tableSends t heard b c k)) (records S))
+    answer-senders = sym (length-map (segmentsSent p) dataFrom) ∙ senders-length (records S) (sentBy p) (tableSends t heard b c) silent each
 
     delivered-eq :
         grown (p .history) (plainSettled p .history ++ served (plainOwner p) (plainSettled p .urgent) (plainSettled p .long))
         ≡ successes b heard + serves (heeded (tableOwner t) (c .urgent)) (heeded (tableOwner t) (c .long))
     delivered-eq =
         rw (eb, eh, ec, owner-eq S p t R)
-        (omega (arith, length-append (plainSettled p .history) (served (plainOwner p) (plainSettled p .urgent) (plainSettled p .long)), row-out (plainSuccess (p .group (p .next))) (index S) (p .group (p .next) .asking) (queuesOf p (p .group (p .next))), length-served (plainOwner p) (plainSettled p .urgent) (plainSettled p .long)))
+        (omega (arith, length-append (plainSettled p .history) (served (plainOwner p) (plainSettled p .urgent) (plainSettled p .long)), row-out (plainSuccess (p .group (p .next))) (indexOf S) (p .group (p .next) .asking) (queuesOf p (p .group (p .next))), length-served (plainOwner p) (plainSettled p .urgent) (plainSettled p .long)))
 
     -- the senders are read alike
-    read-alike : hearing (index S) (sentBy p) ≡ hearing (index S) (gather (λ k. senderIf k (tableSends t heard b c k)) (length (S .indexes)))
-    read-alike = senders-read (length (S .indexes)) (sentBy p) (tableSends t heard b c) silent each (index S)
+    read-alike : hearing (indexOf S) (sentBy p) ≡ hearing (indexOf S) (gather (λ k. senderIf k (tableSends t heard b c k)) (records S))
+    read-alike = senders-read (records S) (sentBy p) (tableSends t heard b c) silent each (indexOf S)
 
     answer-same : plainAnswer S p (plainWent S pick p (plainSettled p)) (plainSettled p) ≡ tableAnswer S t heard b c
     answer-same =
@@ -355,12 +404,12 @@ module _ (S : Start) (pick : ℕ → ℕ) (jl : (k : ℕ) → 1 ≤ pick k) (jh 
   pub slot-answer : plainAnswer S p (plainWent S pick p (plainSettled p)) (plainSettled p) ≡ tableAnswer S t (tableRow S t) (tableSuccess t (tableRow S t)) (tableSettled S t)
   slot-answer = answer-same (tableRow S t) (tableSuccess t (tableRow S t)) (tableSettled S t) (heard-eq S p t R) (success-eq S p t R) (settled-eq S p t R)
 
-  -- a station's condition after step 1 is its message's
+  -- a record's condition after step 1 is its message's
   pub settled-fits : (k : ℕ) → Fits S (R .message k) (settle (tableSuccess t (tableRow S t)) (t .next) (tableRow S t) (tablePlaces t) (t .condition k))
   settled-fits k =
       subst (Fits S (R .message k)) (sym (first-eq (tableRow S t) (tableSuccess t (tableRow S t)) (tableSettled S t) (heard-eq S p t R) (success-eq S p t R) (settled-eq S p t R) k))
-      (first-ok S pick p k (R .message k) R.low R.high (jl k) (jh k) (t .condition k) (R .agrees k) .fits)
+      (first-ok S pick p k (R .message k) R.low R.high (jl (holder k)) (jh (holder k)) (t .condition k) (R .agrees k) .fits)
 
-  -- as many stations send a segment as the plain channel sends segments
-  pub senders-eq : length (segmentsSent p) ≡ length (gather (λ k. senderIf k (tableSends t (tableRow S t) (tableSuccess t (tableRow S t)) (tableSettled S t) k)) (length (S .indexes)))
+  -- as many records send a segment as the plain channel sends segments
+  pub senders-eq : length (segmentsSent p) ≡ length (gather (λ k. senderIf k (tableSends t (tableRow S t) (tableSuccess t (tableRow S t)) (tableSettled S t) k)) (records S))
   senders-eq = answer-senders (tableRow S t) (tableSuccess t (tableRow S t)) (tableSettled S t) (heard-eq S p t R) (success-eq S p t R) (settled-eq S p t R)

@@ -1,4 +1,4 @@
--- What one station sees of a list: `of k` keeps station k's messages, `seen` reads a queue by places; the laws of the test on two numbers.
+-- What one message record sees of a list: `of k` keeps record k's messages, `seen` reads a queue by places; the laws of the test on two numbers.
 -- Assumes nothing.
 use mathlib.Core.Path.{_≡_, refl, sym}
 use mathlib.Core.Bool.{Bool, true, false}
@@ -7,7 +7,7 @@ use Prim.Native.Nat.{ℕ, zero, suc, _-_}
 use native.Mathlib.Omega.{arith}
 use borrow.Author.Tests.{eq-eqb, eqb-true, eqb-false, ne-eqb}
 use lib.Dec.{eqb}
-use Rattle.rules.specs.Messages.{Message, Segment, segment}
+use Rattle.rules.specs.Messages.{Message, Segment, segment, recordOf}
 
 pub eqb-self : (n : ℕ) → eqb n n ≡ true
 eqb-self n = eq-eqb n n refl
@@ -16,7 +16,7 @@ eqb-self n = eq-eqb n n refl
 pub nil-cons {ℓ} : {A : Type ℓ} {x : A} {l : List A} → _≡_ {A = List A} [] (x ∷ l) → ⊥
 nil-cons e = let z : _≡_ {A = ℕ} 0 1 = cc in omega arith
 
--- a station's position with a number: what a minislot carries of a sender (its slots), what a data slot does (its segment)
+-- a record's position with a number: what a minislot carries of a sender (its slots), what a data slot does (its segment)
 pub record Sender : Type 0 where
   pub position : ℕ
   pub value : ℕ
@@ -25,10 +25,10 @@ abbrev pub senderAt : ℕ → ℕ → Sender
 senderAt k v = record { position = k; value = v }
 
 abbrev pub requestFrom : Message → Sender
-requestFrom m = senderAt (m .station) (m .slots)
+requestFrom m = senderAt (recordOf m) (m .slots)
 
 abbrev pub dataFrom : Segment → Sender
-dataFrom s = senderAt (s .message .station) (s .number)
+dataFrom s = senderAt (recordOf (s .message)) (s .number)
 
 -- what `f` shows of the i-th place of a queue, and nothing past its end
 abbrev pub seen {ℓ κ} : {A : Type ℓ} {E : Type κ} → (A → List E) → List A → ℕ → List E

@@ -1,17 +1,17 @@
 -- A station's record beside the shared table: its slot, from its own counters alone, makes it the record of the table's next state, and sends what the
 -- table says; an offer to it goes by its own list of numbers. Assumes nothing.
-use mathlib.Core.Path.{_≡_, refl, ap, subst, _∙_}
-use mathlib.Core.Bool.{Bool, true, false, cond}
+use mathlib.Core.Path.{_≡_, refl, sym, ap, subst, _∙_}
+use mathlib.Core.Bool.{Bool, true, false, _&&_, cond}
 use mathlib.Core.List.{List, [], _∷_}
 use mathlib.Core.Option.{some}
 use mathlib.Core.Logic.{_≢_}
-use Prim.Native.Nat.{ℕ, suc, _-_, _≤_, _<_}
+use Prim.Native.Nat.{ℕ, zero, suc, _-_, _≤_, _<_}
 use native.Mathlib.Omega.{arith}
 use lib.Dec.{eqb}
 use lib.ListN.{length, getD, set, length-set}
 use lib.Seq.{getD-set-same, getD-set-other}
 use borrow.Author.Tests.{eqb-true, eqb-false}
-use Rattle.message.specs.Message.{fitsMessage, slotsFor}
+use Rattle.message.specs.Message.{fitsMessage, fitsShort, slotsFor}
 use Rattle.minislot.specs.declared.Feedback.{Feedback}
 use Rattle.minislot.specs.declared.Reading.{Reading}
 use Rattle.minislot.specs.declared.Reading.the-variants.{Heard, Refused}
@@ -25,18 +25,24 @@ use Rattle.rules.specs.Queueing.{queuedRow, immediate, placesOf, immedia
 use Rattle.rules.specs.Turns.{turnOf, isOpen}
 use Rattle.rules.specs.Falling.{fallen}
 use Rattle.rules.specs.Listening.{hasRow}
-use Rattle.rules.specs.StationLimits.{Condition, stationWithin}
+use Rattle.rules.specs.StationLimits.{Condition, Free, Fresh, Asked, Resolving, Urgent, Long, stationWithin}
+use Rattle.rules.specs.declared.Acted.{Acted}
+use Rattle.rules.specs.Messages.{shortRecord, longRecord}
+use Rattle.rules.specs.Requesting.{requests}
 use Rattle.rules.specs.OwnHearing.{hearsItself}
 use Rattle.rules.specs.Serving.{moved}
 use Rattle.rules.specs.StationCalls.{isFree, takingNumberOf, heardSlotNumberOf, slotNumberOf, slotOf}
 use Rattle.rules.specs.Refusing.{unless, byNumber}
 use Rattle.rules.specs.Outcome.{outcomeOf}
-use Rattle.rules.specs.Stepping.{stepOf}
+use Rattle.rules.specs.Stepping.{isFresh, stays, stepOf}
 use Rattle.rules.specs.Calls.{Start, index}
-use Rattle.rules.proofs.Clauses.{settle, asks, less}
+use Rattle.rules.proofs.Views.{Sender}
+use Rattle.rules.proofs.Clauses.{settle, asks, falls, heeded, less, requestSender}
+use Rattle.rules.proofs.Records.{holder, holder-short, holder-long, kind-short, kind-long}
+use Rattle.rules.proofs.Parting.{fresh-settled}
 use Rattle.rules.proofs.ClauseLaws.{Placed, settle-is, asks-is, falls-is, sends-is, less-is, urgent-falls-is, long-falls-is}
-use Rattle.rules.proofs.Shared.{Table, tableRefuse, tableAccept, tableOffer, tablePlaces, tableSuccess, tableOwner, tableCondition, tableWent, tableSends}
-use Rattle.rules.proofs.Settled.{settledOf, segmentSent, conditionAfter, stationAfter, wentBy, step-is}
+use Rattle.rules.proofs.Shared.{Table, TableResult, tableRefuse, tableAccept, tableOffer, recordTaking, tablePlaces, tableSuccess, tableOwner, tableCondition, tableHeld, tableWent, tableSends}
+use Rattle.rules.proofs.Settled.{settledOf, requesting, segmentSent, conditionAfter, actedBy, besideBy, stationAfter, wentBy, step-is}
 use Rattle.rules.proofs.QueueingLaws.{fits-if}
 use Rattle.rules.proofs.LimitLaws.{within-limits, station-in}
 use Rattle.rules.proofs.SlotStep.{and-both}
@@ -56,13 +62,14 @@ pub record IsStation (S : Start) (t : Table) (k : ℕ) (s : Station) : Type 0 wh
   pub groups : s .counters .groups ≡ S .n
   pub next : s .counters .next ≡ t .next
   pub urgent : s .counters .urgent ≡ t .h
-  pub long : s .counters .long ≡ t .n
+  pub long-queue : s .counters .long ≡ t .n
   pub arrays : (length (s .counters .resolution) ≡ 8) × (length (s .counters .opened) ≡ 8)
   pub resolution : (g : ℕ) → 1 ≤ g → g ≤ 8 → getD (s .counters .resolution) (g - 1) 0 ≡ t .rq g
   pub mark : (g : ℕ) → 1 ≤ g → g ≤ 8 → getD (s .counters .opened) (g - 1) false ≡ t .opened g
   pub calendar : s .counters .calendar ≡ t .calendar
   pub position : s .counters .position ≡ t .position
-  pub condition : s .condition ≡ t .condition k
+  pub short : s .short .condition ≡ t .condition (shortRecord k)
+  pub long : s .long .condition ≡ t .condition (longRecord k)
 
 -- the list from station j on
 abbrev pub AreStations : Start → Table → ℕ → List Station → Type 0
@@ -76,9 +83,61 @@ tableQueued t heard = queuedRow (tableSuccess t heard) (tablePlaces t) heard
 abbrev pub tableSettledBy : Table → List Feedback → ℕ → Condition
 tableSettledBy t heard k = settle (tableSuccess t heard) (t .next) heard (tablePlaces t) (t .condition k)
 
+-- record r after the slot, held back or not
+abbrev pub tableMoved : Table → List Feedback → Bool → ℕ → ℕ → Condition
+tableMoved t heard b pick r =
+    falls (heeded (tableOwner t) (tableQueued t heard .urgent)) (heeded (tableOwner t) (tableQueued t heard .long))
+    (asks b (tableQueued t heard .resolution) (t .next) pick (tableSettledBy t heard r))
+
+-- record r's request in minislot i
+abbrev pub tableRequest : Table → List Feedback → (ℕ → ℕ) → ℕ → ℕ → List Sender
+tableRequest t heard pick i r =
+    requestSender (tableHeld t r) (tableQueued t heard .resolution) (t .next) (pick (holder r)) i r (tableSettledBy t heard r)
+
+-- every place of every record counts from 1, before the slot, after step 1 and after step 3
+pub record Steady (t : Table) (heard : List Feedback) (pick : ℕ → ℕ) : Type 0 where
+  pub before : (r : ℕ) → Placed (t .condition r)
+  pub settled : (r : ℕ) → Placed (tableSettledBy t heard r)
+  pub asked : (r : ℕ) (b : Bool) → Placed (asks b (tableQueued t heard .resolution) (t .next) (pick (holder r)) (tableSettledBy t heard r))
+
+-- a fresh message that is held back stays; one that is not fresh is never held back
+held-stays : (r g pick t h n : ℕ) → Fresh t ≡ falls h n (asks true r g pick (Fresh t))
+held-stays zero g pick t h n = refl
+held-stays (suc r) g pick t h n = refl
+
+pub held-other : (r g pick : ℕ) (c : Condition) → isFresh c ≡ false → asks true r g pick c ≡ asks false r g pick c
+held-other zero g pick Free e = refl
+held-other zero g pick (Fresh t) e = cc
+held-other zero g pick (Asked h i t) e = refl
+held-other zero g pick (Resolving h i t) e = refl
+held-other zero g pick (Urgent i) e = refl
+held-other zero g pick (Long f l t) e = refl
+held-other (suc r) g pick Free e = refl
+held-other (suc r) g pick (Fresh t) e = cc
+held-other (suc r) g pick (Asked h i t) e = refl
+held-other (suc r) g pick (Resolving h i t) e = refl
+held-other (suc r) g pick (Urgent i) e = refl
+held-other (suc r) g pick (Long f l t) e = refl
+
+module _ (b : Bool) (g : ℕ) (row : List Feedback) (p : Places) (r pick h n : ℕ) where
+  beside-is : (x : Bool) (c : Condition) (y : Acted) → y .condition ≡ falls h n (asks false r g pick (settle b g row p c))
+      → (cond (x && isFresh c) (stays c) y) .condition ≡ falls h n (asks x r g pick (settle b g row p c))
+  beside-is false c y e = e
+  beside-is true c y e = go c e (isFresh c) refl
+    where
+      go : (c : Condition) → y .condition ≡ falls h n (asks false r g pick (settle b g row p c)) → (f : Bool) → isFresh c ≡ f
+          → (cond f (stays c) y) .condition ≡ falls h n (asks true r g pick (settle b g row p c))
+      go c e false f = e ∙ ap (falls h n) (sym (held-other r g pick (settle b g row p c) (fresh-settled b g row p c ∙ f)))
+      go Free e true f = cc
+      go (Fresh t) e true f = held-stays r g pick t h n
+      go (Asked x i t) e true f = cc
+      go (Resolving x i t) e true f = cc
+      go (Urgent i) e true f = cc
+      go (Long x l t) e true f = cc
+
 module _ (S : Start) (t : Table) (gl : 1 ≤ t .next) (gh : t .next ≤ 8) (heard : List Feedback) (k : ℕ) (s : Station) (a : IsStation S t k s) where
   pub places-is : placesOf (s .counters) ≡ tablePlaces t
-  places-is = rw (a .next, a .urgent, a .long, a .resolution (t .next) gl gh)
+  places-is = rw (a .next, a .urgent, a .long-queue, a .resolution (t .next) gl gh)
 
   pub owner-is : ownerOf (s .counters) ≡ tableOwner t
   owner-is = rw (a .calendar, a .position)
@@ -92,50 +151,76 @@ module _ (S : Start) (t : Table) (gl : 1 ≤ t .next) (gh : t .next ≤ 8) (hear
   unfolding placesAfter
   queued-is = rw (success-is, places-is)
 
-  module _ (w₀ : Placed (t .condition k)) where
-    pub settled-is : settledOf (s .counters) heard (s .condition) ≡ tableSettledBy t heard k
-    settled-is = rw (success-is, places-is, a .next, a .condition) (settle-is (tableSuccess t heard) (t .next) (tablePlaces t) heard (t .condition k) w₀)
+  -- one of its records, r, in condition c
+  module _ (r : ℕ) (c : Condition) (e : c ≡ t .condition r) (w₀ : Placed (t .condition r)) where
+    pub settled-is : settledOf (s .counters) heard c ≡ tableSettledBy t heard r
+    settled-is = rw (success-is, places-is, a .next, e) (settle-is (tableSuccess t heard) (t .next) (tablePlaces t) heard (t .condition r) w₀)
 
-    pub sent-is : Placed (tableSettledBy t heard k) → segmentSent s heard ≡ tableSends t heard (tableSuccess t heard) (tableQueued t heard) k
-    sent-is w₁ =
-        rw (queued-is, settled-is, a .next, owner-is)
-        (sends-is (tableOwner t) (t .next) (tableQueued t heard .urgent) (tableQueued t heard .long) (tableQueued t heard .resolution) (tableSettledBy t heard k) w₁)
+    pub requesting-is : requesting (s .counters) heard c ≡ requests (tableQueued t heard .resolution) (t .next) (tableSettledBy t heard r)
+    requesting-is = rw (queued-is, settled-is, a .next)
 
-    module _ (pick : ℕ → ℕ) (w₁ : Placed (tableSettledBy t heard k)) (w₂ : Placed (asks (tableQueued t heard .resolution) (t .next) (pick k) (tableSettledBy t heard k))) where
-      condition-is : conditionAfter s heard (pick k) ≡ tableCondition pick t heard (tableSuccess t heard) (tableQueued t heard) k
-      condition-is =
+    module _ (w₁ : Placed (tableSettledBy t heard r)) where
+      pub sent-is : segmentSent (s .counters) heard c ≡ tableSends t heard (tableSuccess t heard) (tableQueued t heard) r
+      sent-is =
           rw (queued-is, settled-is, a .next, owner-is)
-          (ap (moved (turnOf (tableOwner t) (tableQueued t heard))) (asks-is (tableQueued t heard .resolution) (t .next) (pick k) (tableSettledBy t heard k) w₁)
+          (sends-is (tableOwner t) (t .next) (tableQueued t heard .urgent) (tableQueued t heard .long) (tableQueued t heard .resolution) (tableSettledBy t heard r) w₁)
+
+      pub condition-is : (pick : ℕ) → Placed (asks false (tableQueued t heard .resolution) (t .next) pick (tableSettledBy t heard r))
+          → conditionAfter (s .counters) heard pick c ≡ tableMoved t heard false pick r
+      condition-is pick w₂ =
+          rw (queued-is, settled-is, a .next, owner-is)
+          (ap (moved (turnOf (tableOwner t) (tableQueued t heard))) (asks-is (tableQueued t heard .resolution) (t .next) pick (tableSettledBy t heard r) w₁)
           ∙ falls-is (tableOwner t) (tableQueued t heard .urgent) (tableQueued t heard .long) (tableQueued t heard .resolution)
-          (asks (tableQueued t heard .resolution) (t .next) (pick k) (tableSettledBy t heard k)) w₂)
+          (asks false (tableQueued t heard .resolution) (t .next) pick (tableSettledBy t heard r)) w₂)
 
-      pub station-is : IsStation S (tableWent S pick t heard (tableSuccess t heard) (tableQueued t heard)) k (stationAfter s heard (pick k))
-      unfolding stationAfter fallen
-      station-is =
-          record {
-            index = a .index;
-            minislots = a .minislots;
-            groups = a .groups;
-            next = rw (a .groups, a .next);
-            urgent = rw (queued-is, owner-is) (urgent-falls-is (tableOwner t) (tableQueued t heard .urgent) (tableQueued t heard .long) (tableQueued t heard .resolution));
-            long = rw (queued-is, owner-is) (long-falls-is (tableOwner t) (tableQueued t heard .urgent) (tableQueued t heard .long) (tableQueued t heard .resolution));
-            arrays = (length-set (s .counters .resolution) (s .counters .next - 1) _ ∙ a .arrays .0, length-set (s .counters .opened) (s .counters .next - 1) _ ∙ a .arrays .1);
-            resolution = λ g l h.
-                rw (queued-is, a .next, less-is (tableQueued t heard .resolution))
-                (get-set (s .counters .resolution) (t .next) g (less-of) 0 gl l (omega (arith, a .arrays .0)) ∙ ap (cond (eqb g (t .next)) less-of) (a .resolution g l h));
-            mark = λ g l h.
-                rw (queued-is, a .next, owner-is)
-                (get-set (s .counters .opened) (t .next) g (mark-of) false gl l (omega (arith, a .arrays .1)) ∙ ap (cond (eqb g (t .next)) mark-of) (a .mark g l h));
-            calendar = a .calendar;
-            position = rw (a .position);
-            condition = condition-is;
-          }
-        where
-          less-of : ℕ
-          less-of = less (tableQueued t heard .resolution)
+  -- both records after the slot, and so the station
+  module _ (pick : ℕ → ℕ) (w : Steady t heard pick) where
+    pub short-is : actedBy (s .counters) heard (pick k) (s .short .condition) .condition ≡ tableCondition pick t heard (tableSuccess t heard) (tableQueued t heard) (shortRecord k)
+    unfolding actedBy
+    short-is =
+        condition-is (shortRecord k) (s .short .condition) (a .short) (w .before (shortRecord k)) (w .settled (shortRecord k)) (pick k)
+        (subst (λ (z : ℕ). Placed (asks false (tableQueued t heard .resolution) (t .next) (pick z) (tableSettledBy t heard (shortRecord k)))) (holder-short k) (w .asked (shortRecord k) false))
+        ∙ rw (kind-short k, holder-short k)
 
-          mark-of : Bool
-          mark-of = isOpen (turnOf (tableOwner t) (tableQueued t heard))
+    pub long-is : besideBy (s .counters) heard (pick k) (s .short .condition) (s .long .condition) .condition
+        ≡ tableCondition pick t heard (tableSuccess t heard) (tableQueued t heard) (longRecord k)
+    unfolding besideBy actedBy
+    long-is =
+        rw (kind-long k, holder-long k, ← (a .short))
+        (ap (λ (c : Condition). (cond (isFresh (s .short .condition) && isFresh c) (stays c) (actedBy (s .counters) heard (pick k) (s .long .condition))) .condition) (a .long)
+        ∙ beside-is (tableSuccess t heard) (t .next) heard (tablePlaces t) (tableQueued t heard .resolution) (pick k) (heeded (tableOwner t) (tableQueued t heard .urgent))
+        (heeded (tableOwner t) (tableQueued t heard .long)) (isFresh (s .short .condition)) (t .condition (longRecord k)) (actedBy (s .counters) heard (pick k) (s .long .condition))
+        (condition-is (longRecord k) (s .long .condition) (a .long) (w .before (longRecord k)) (w .settled (longRecord k)) (pick k)
+        (subst (λ (z : ℕ). Placed (asks false (tableQueued t heard .resolution) (t .next) (pick z) (tableSettledBy t heard (longRecord k)))) (holder-long k) (w .asked (longRecord k) false))))
+
+    pub station-is : IsStation S (tableWent S pick t heard (tableSuccess t heard) (tableQueued t heard)) k (stationAfter s heard (pick k))
+    unfolding stationAfter fallen
+    station-is =
+        record {
+          index = a .index;
+          minislots = a .minislots;
+          groups = a .groups;
+          next = rw (a .groups, a .next);
+          urgent = rw (queued-is, owner-is) (urgent-falls-is (tableOwner t) (tableQueued t heard .urgent) (tableQueued t heard .long) (tableQueued t heard .resolution));
+          long-queue = rw (queued-is, owner-is) (long-falls-is (tableOwner t) (tableQueued t heard .urgent) (tableQueued t heard .long) (tableQueued t heard .resolution));
+          arrays = (length-set (s .counters .resolution) (s .counters .next - 1) _ ∙ a .arrays .0, length-set (s .counters .opened) (s .counters .next - 1) _ ∙ a .arrays .1);
+          resolution = λ g l h.
+              rw (queued-is, a .next, less-is (tableQueued t heard .resolution))
+              (get-set (s .counters .resolution) (t .next) g (less-of) 0 gl l (omega (arith, a .arrays .0)) ∙ ap (cond (eqb g (t .next)) less-of) (a .resolution g l h));
+          mark = λ g l h.
+              rw (queued-is, a .next, owner-is)
+              (get-set (s .counters .opened) (t .next) g (mark-of) false gl l (omega (arith, a .arrays .1)) ∙ ap (cond (eqb g (t .next)) mark-of) (a .mark g l h));
+          calendar = a .calendar;
+          position = rw (a .position);
+          short = short-is;
+          long = long-is;
+        }
+      where
+        less-of : ℕ
+        less-of = less (tableQueued t heard .resolution)
+
+        mark-of : Bool
+        mark-of = isOpen (turnOf (tableOwner t) (tableQueued t heard))
 
 -- a row of m minislots or fewer is heard in m or fewer
 pub feedbacks-short : (words counts : List ℕ) → length (feedbacks (readings words counts)) ≤ length words
@@ -169,10 +254,17 @@ module _ (s : Station) (words counts : List ℕ) (row : List Feedback) (pick : �
   slot-passes = slot-steps ∙ step-is s row pick (subst (λ (r : List Feedback). length r ≤ 8) ef (row-fits s words counts e18 e6))
 
 -- an offer to a station that is there, by the station's own list of numbers
-pub offer-is : (t : Table) (k bytes : ℕ) → tableOffer t bytes (some k) ≡ byNumber (takingNumberOf (t .condition k) bytes) (tableRefuse t) (tableAccept t k (slotsFor bytes))
-offer-is t k bytes = go (isFree (t .condition k)) (fitsMessage bytes)
+pub offer-is : (t : Table) (k bytes : ℕ) (s : Station) → s .short .condition ≡ t .condition (shortRecord k) → s .long .condition ≡ t .condition (longRecord k)
+    → tableOffer t bytes (some k) ≡ byNumber (takingNumberOf s bytes) (tableRefuse t) (tableAccept t (recordTaking k bytes) (slotsFor bytes))
+offer-is t k bytes s x y = rw (x, y) (pick (fitsShort bytes))
   where
-    go : (b c : Bool) → cond b (cond c (tableAccept t k (slotsFor bytes)) (tableRefuse t 10)) (tableRefuse t 9) ≡ byNumber (unless b 9 (unless c 10 0)) (tableRefuse t) (tableAccept t k (slotsFor bytes))
-    go true true = refl
-    go true false = refl
-    go false c = refl
+    go : (b c : Bool) (w : TableResult) → cond c (cond b w (tableRefuse t 9)) (tableRefuse t 10) ≡ byNumber (unless c 10 (unless b 9 0)) (tableRefuse t) w
+    go true true w = refl
+    go false true w = refl
+    go b false w = refl
+
+    pick : (b : Bool)
+        → cond (fitsMessage bytes) (cond (isFree (t .condition (cond b (shortRecord k) (longRecord k)))) (tableAccept t (cond b (shortRecord k) (longRecord k)) (slotsFor bytes)) (tableRefuse t 9)) (tableRefuse t 10)
+        ≡ byNumber (unless (fitsMessage bytes) 10 (unless (isFree (cond b (t .condition (shortRecord k)) (t .condition (longRecord k)))) 9 0)) (tableRefuse t) (tableAccept t (cond b (shortRecord k) (longRecord k)) (slotsFor bytes))
+    pick true = go (isFree (t .condition (shortRecord k))) (fitsMessage bytes) _
+    pick false = go (isFree (t .condition (longRecord k))) (fitsMessage bytes) _

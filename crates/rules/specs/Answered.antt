@@ -16,7 +16,7 @@ use Rattle.rules.specs.Queueing.{stepOneOf}
 use Rattle.rules.specs.Turns.{Turn, turnOf}
 use Rattle.rules.specs.Listening.{listenNumberOf}
 use Rattle.rules.specs.Outcome.{outcomeOf}
-use Rattle.rules.specs.Stepping.{actsOf}
+use Rattle.rules.specs.Stepping.{actsOf, actsBeside, asker, sender}
 use Rattle.rules.specs.StationCalls.{stationStartNumberOf, offerNumberOf, slotNumberOf}
 use Rattle.rules.specs.Settings.{calendarNumberOf, stationCalendarNumberOf}
 use Rattle.rules.specs.Numbers.{Told, refusal, went}
@@ -43,13 +43,14 @@ offerToldOf s bytes = told (offerNumberOf s bytes) [] (slotsFor bytes ∷ [])
 abbrev pub slotTurn : Outcome → List Turn
 slotTurn o = o .turn ∷ []
 
-abbrev pub actedValues : Acted → List ℕ
-actedValues x = x .minislot ∷ x .segment ∷ []
+abbrev pub actedValues : Acted → Acted → List ℕ
+actedValues x y = asker x y .minislot ∷ sender x y .segment ∷ []
 
 unfoldable pub slotToldOf : Station → List ℕ → List ℕ → ℕ → Told
 slotToldOf s words counts pick =
     let o = outcomeOf (s .counters) (feedbacks (readings words counts)) in
-    told (slotNumberOf s words counts pick) (slotTurn o) (actedValues (actsOf o (s .condition) pick))
+    told (slotNumberOf s words counts pick) (slotTurn o)
+    (actedValues (actsOf o (s .short .condition) pick) (actsBeside o (s .short .condition) (s .long .condition) pick))
 
 unfoldable pub calendarToldOf : Counters → List ℕ → Told
 calendarToldOf c entries = told (calendarNumberOf c entries) [] []

@@ -1,6 +1,6 @@
 -- What a station must hear of itself (paper 01, "The box": "An asked box, when its group returns, must hear in its minislot a Single of its
--- own index and total, or a Collide containing all its ones. A box must hear its own index as Single nowhere else"; refusal 12). Assumes
--- nothing.
+-- own index and total, or a Collide containing all its ones. A box must hear its own index as Single nowhere else"; refusal 12; paper 02,
+-- T-04). Assumes nothing.
 use mathlib.Core.Bool.{Bool, true, false, not, _&&_, cond}
 use mathlib.Core.List.{List, [], _∷_}
 use Prim.Native.Nat.{ℕ, suc}
@@ -12,7 +12,7 @@ use Rattle.minislot.specs.declared.Feedback.the-variants.{Empty, Single, Collid
 use Rattle.rules.specs.declared.Station.{Station}
 use Rattle.rules.specs.StationLimits.{Condition, Free, Fresh, Asked, Resolving, Urgent, Long}
 
--- the minislot where a condition makes its station listen for itself in group g (0 for none), and its total
+-- the minislot where a message makes its station listen for itself in group g (0 for none), and its total
 abbrev pub ownMinislot : ℕ → Condition → ℕ
 ownMinislot g Free = 0
 ownMinislot g (Fresh t) = 0
@@ -51,6 +51,14 @@ hearsFrom index own total j words [] = true
 hearsFrom index own total j [] (f ∷ row) = true
 hearsFrom index own total j (w ∷ words) (f ∷ row) = hearsAt index own total j w f && hearsFrom index own total (suc j) words row
 
--- a station's own hearing of a row: its words and what they read as
+-- the record that is asked in group g, the short one or else the long one: within limits at most one is
+abbrev pub listens : ℕ → Station → Condition
+listens g s = cond (eqb (ownMinislot g (s .short .condition)) 0) (s .long .condition) (s .short .condition)
+
+-- a station that listens for this message of its own, in a slot of group g: its words and what they read as
+abbrev pub hearsOf : ℕ → ℕ → Condition → List ℕ → List Feedback → Bool
+hearsOf g index k words row = hearsFrom index (ownMinislot g k) (ownTotal k) 1 words row
+
+-- a station's own hearing of a row
 unfoldable pub hearsItself : Station → List ℕ → List Feedback → Bool
-hearsItself s words row = hearsFrom (s .index) (ownMinislot (s .counters .next) (s .condition)) (ownTotal (s .condition)) 1 words row
+hearsItself s words row = hearsOf (s .counters .next) (s .index) (listens (s .counters .next) s) words row

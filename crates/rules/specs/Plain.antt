@@ -1,5 +1,5 @@
--- THE PLAIN CHANNEL (paper 01, "The plain channel"; paper 02, T-02): queues of messages and of segments, fed the start's m, n and indexes
--- and each call's arguments, nothing from table or wire. Assumes nothing.
+-- THE PLAIN CHANNEL (paper 01, "The plain channel"; paper 02, T-02 and T-04): queues of messages and of segments, fed the start's m, n and
+-- indexes and each call's arguments, nothing from table or wire. Assumes nothing.
 use mathlib.Core.Bool.{Bool, true, false, not, _&&_, _||_, cond}
 use mathlib.Core.List.{List, [], _∷_, _++_, map}
 use mathlib.Core.Option.{Option, none, some}
@@ -8,7 +8,7 @@ use lib.Dec.{leb, ltb, eqb}
 use lib.ListN.{length, getD, replicate}
 use Rattle.message.specs.Message.{fitsMessage, slotsFor}
 use Rattle.listlaws.specs.Lists.{keepIf}
-use Rattle.rules.specs.Messages.{Message, Segment, segment, segmentsFrom, of, deliveredOf}
+use Rattle.rules.specs.Messages.{Message, Segment, segment, segmentsFrom, shortRecord, recordOf, of, deliveredOf}
 use Rattle.rules.specs.Calendars.{ownerIn}
 use Rattle.rules.specs.Turns.{Turn, OwnedTurn, UrgentTurn, LongTurn, ResolveTurn, OpenTurn}
 use Rattle.rules.specs.Calls.{Start, index, Answer, Refused, Taken, Set, Went, Call, Offer, Slot, Calendar}
@@ -109,13 +109,26 @@ plainMark LongTurn = false
 plainMark ResolveTurn = false
 plainMark OpenTurn = true
 
--- the first place of the resolution queue leaves and asks, or, if there is none, all fresh messages ask
+-- of two fresh messages of one station only the short one asks: a longer one is held back while a short one of its station is fresh
+abbrev pub someOf : List Message → Bool
+someOf [] = false
+someOf (m ∷ l) = true
+
+abbrev pub heldBack : List Message → Message → Bool
+heldBack fresh m = not (eqb (m .slots) 1) && someOf (of (shortRecord (m .station)) fresh)
+
+-- the messages of a list that pass a test
+abbrev pub those : (Message → Bool) → List Message → List Message
+those test [] = []
+those test (m ∷ l) = keepIf (test m) m (those test l)
+
+-- the first place of the resolution queue leaves and asks, or, if there is none, all fresh messages ask that are not held back
 abbrev pub askers : List (List Message) → List Message → List Message
-askers [] fresh = fresh
+askers [] fresh = those (λ m. not (heldBack fresh m)) fresh
 askers (x ∷ r) fresh = x
 
 abbrev pub staysFresh : List (List Message) → List Message → List Message
-staysFresh [] fresh = []
+staysFresh [] fresh = those (heldBack fresh) fresh
 staysFresh (x ∷ r) fresh = fresh
 
 -- all but the first entry
@@ -125,8 +138,7 @@ rest (x ∷ r) = r
 
 -- each in its station's pick: the messages asking in minislot j, and minislots j, j + 1, .., n of them
 abbrev pub pickedIn : (ℕ → ℕ) → ℕ → List Message → List Message
-pickedIn pick j [] = []
-pickedIn pick j (m ∷ l) = keepIf (eqb (pick (m .station)) j) m (pickedIn pick j l)
+pickedIn pick j l = those (λ m. eqb (pick (m .station)) j) l
 
 abbrev pub askingRow : (ℕ → ℕ) → List Message → ℕ → ℕ → List (List Message)
 askingRow pick l zero j = []
@@ -150,15 +162,14 @@ served none [] [] = []
 
 -- open: each one-slot message that began to ask in this slot is sent
 abbrev pub oneSlot : List Message → List Message
-oneSlot [] = []
-oneSlot (m ∷ l) = keepIf (eqb (m .slots) 1) m (oneSlot l)
+oneSlot l = those (λ m. eqb (m .slots) 1) l
 
 abbrev pub sent : Option ℕ → List Message → List Segment → List (List Message) → List Message → List Segment
 sent (some x) u l r fresh = []
 sent none (m ∷ u) l r fresh = segment m 1 ∷ []
 sent none [] (s ∷ l) r fresh = s ∷ []
 sent none [] [] (x ∷ r) fresh = []
-sent none [] [] [] fresh = map (λ (m : Message). segment m 1) (oneSlot fresh)
+sent none [] [] [] fresh = map (λ (m : Message). segment m 1) (oneSlot (askers [] fresh))
 
 -- the next group follows: 1, 2, .. n, 1, ..
 abbrev pub nextGroup : ℕ → ℕ → ℕ
@@ -243,7 +254,8 @@ abbrev pub slotSum : List Message → ℕ
 slotSum [] = 0
 slotSum (m ∷ l) = m .slots + slotSum l
 
--- 9: a message of station k is not all delivered, told by the totals (`nine` of Demand3: they tell the same)
+-- 9: a message of record k, which is one of a station and a kind, is not all delivered, told by the totals (`nine` of Demand3: they tell
+-- the same)
 abbrev pub waits : Plain → ℕ → Bool
 waits p k = not (eqb (slotSum (of k (p .taken))) (length (deliveredOf k (p .history))))
 
@@ -266,12 +278,16 @@ plainAccept p m =
       answer = Taken (m .slots);
     }
 
+-- a message of this many bytes, of station k
+abbrev pub newcomer : Plain → ℕ → ℕ → Message
+newcomer p k bytes = record { serial = length (p .taken); station = k; slots = slotsFor bytes }
+
 abbrev pub plainOffer : Plain → ℕ → Option ℕ → PlainResult
 plainOffer p bytes none = plainRefuse p 16
 plainOffer p bytes (some k) =
-    cond (waits p k) (plainRefuse p 9)
-    (cond (fitsMessage bytes) (plainAccept p (record { serial = length (p .taken); station = k; slots = slotsFor bytes }))
-    (plainRefuse p 10))
+    cond (fitsMessage bytes)
+    (cond (waits p (recordOf (newcomer p k bytes))) (plainRefuse p 9) (plainAccept p (newcomer p k bytes)))
+    (plainRefuse p 10)
 
 -- ---- calendars
 
@@ -320,7 +336,7 @@ plainStart S =
       history = [];
     }
 
--- a call refused changes nothing: 16, 9, 10; 17, 11, 7; 20, 21. 14 and 18 never come
+-- a call refused changes nothing: 16, 10, 9; 17, 11, 7; 20, 21. 14 and 18 never come
 abbrev pub plainCall : Start → Plain → Call → PlainResult
 plainCall S p (Offer x bytes) = plainOffer p bytes (stationFrom 0 (S .indexes) x)
 plainCall S p (Slot picks) =

@@ -1,22 +1,23 @@
--- A station's condition as the plain channel shows it (paper 01, "Demand 3's list": "its condition its message's: fresh, asked, or its
--- position in its queue (a stretch: its segments there); free if none waits"): a search of every queue. Assumes nothing.
+-- The condition of a message record as the plain channel shows it (paper 01, "Demand 3's list": "its condition its message's: fresh, asked,
+-- or its position in its queue (a stretch: its segments there); free if none waits"; paper 02, T-04): a search of every queue. Records are
+-- numbered as in specs/Messages. Assumes nothing.
 use mathlib.Core.List.{List, [], _∷_}
 use mathlib.Core.Option.{Option, none, some}
 use Prim.Native.Nat.{ℕ, zero, suc}
 use lib.Dec.{eqb}
 use lib.ListN.{length}
 use Rattle.listlaws.specs.Lists.{onlyIf}
-use Rattle.rules.specs.Messages.{Message, Segment, of, deliveredOf}
+use Rattle.rules.specs.Messages.{Message, Segment, recordOf, of, deliveredOf}
 use Rattle.rules.specs.StationLimits.{Condition, Free, Fresh, Asked, Resolving, Urgent, Long}
 use Rattle.rules.specs.Calls.{Start}
 use Rattle.rules.specs.Plain.{Plain}
 
--- a message, a segment, if it is station k's
+-- a message, a segment, if it is record k's
 abbrev pub one : ℕ → Message → List Message
-one k m = onlyIf (eqb (m .station) k) (m ∷ [])
+one k m = onlyIf (eqb (recordOf m) k) (m ∷ [])
 
 abbrev pub part : ℕ → Segment → List Segment
-part k s = onlyIf (eqb (s .message .station) k) (s ∷ [])
+part k s = onlyIf (eqb (recordOf (s .message)) k) (s ∷ [])
 
 -- the first place of a queue, counted from j, where `f` shows an entry
 pub record Found {ℓ} (E : Type ℓ) : Type ℓ where
@@ -64,6 +65,7 @@ inGroups p k (suc g) =
     orElse (askedAt (suc g) (find (of k) (p .group (suc g) .asking) 1))
     (orElse (resolvingAt (suc g) (find (of k) (p .group (suc g) .resolution) 1)) (inGroups p k g))
 
+-- the condition of record k
 abbrev pub conditionOf : Start → Plain → ℕ → Condition
 conditionOf S p k =
     orElse (freshAt (of k (p .fresh)))

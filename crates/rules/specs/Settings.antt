@@ -28,7 +28,7 @@ withCalendar entries c =
     }
 
 abbrev pub calendarOn : List ℕ → Station → Station
-calendarOn entries s = record { counters = withCalendar entries (s .counters); index = s .index; condition = s .condition }
+calendarOn entries s = record { counters = withCalendar entries (s .counters); index = s .index; short = s .short; long = s .long }
 
 -- the entries: 20 for one that is neither free nor an index, 21 if none is free
 unfoldable pub entriesNumberOf : List ℕ → ℕ

@@ -1,12 +1,13 @@
--- Starting a station, offering it a message, and its slot (paper 01, "Operations and their numbers"). A refusal leaves the record as it
--- was. Assumes nothing.
-use mathlib.Core.Bool.{Bool, true, false}
+-- Starting a station, offering it a message, and its slot (paper 01, "Operations and their numbers"; paper 02, T-04). A refusal leaves
+-- the record as it was. Assumes nothing.
+use mathlib.Core.Bool.{Bool, true, false, cond}
 use mathlib.Core.List.{List}
 use Prim.Native.Nat.{ℕ}
 use lib.Dec.{leb}
-use Rattle.message.specs.Message.{fitsMessage, slotsFor}
+use Rattle.message.specs.Message.{fitsMessage, fitsShort, slotsFor}
 use Rattle.minislot.specs.declared.Feedback.{Feedback}
 use Rattle.rows.specs.Row.{readings, firstNumber, feedbacks}
+use Rattle.rules.specs.declared.MessageRecord.{MessageRecord}
 use Rattle.rules.specs.declared.Station.{Station}
 use Rattle.rules.specs.declared.StationStarted.{StationStarted}
 use Rattle.rules.specs.declared.StationOffered.{StationOffered}
@@ -26,11 +27,15 @@ use Rattle.rules.specs.Stepping.{stepOf}
 
 -- ---- starting: 5, 8
 
+-- a message record in a condition
+abbrev pub holding : Condition → MessageRecord
+holding k = record { condition = k }
+
 abbrev pub startStation : ℕ → ℕ → ℕ → Station
-startStation m n index = record { counters = startCounters m n; index = index; condition = Free }
+startStation m n index = record { counters = startCounters m n; index = index; short = holding Free; long = holding Free }
 
 abbrev pub noStation : Station
-noStation = record { counters = noCounters; index = 0; condition = Free }
+noStation = record { counters = noCounters; index = 0; short = holding Free; long = holding Free }
 
 abbrev pub isIndex : ℕ → Bool
 isIndex i = leb i 923
@@ -48,7 +53,7 @@ unfoldable pub stationStartOf : ℕ → ℕ → ℕ → StationStarted
 stationStartOf m n index =
     byNumber (stationStartNumberOf m n index) refusedStart (record { answer = Ready; station = startStation m n index })
 
--- ---- offering: 18, 9, 10
+-- ---- offering: 18, 10, 9
 
 abbrev pub isFree : Condition → Bool
 isFree Free = true
@@ -58,27 +63,34 @@ isFree (Resolving h i t) = false
 isFree (Urgent i) = false
 isFree (Long f l t) = false
 
-abbrev pub withCondition : Station → Condition → Station
-withCondition s k = record { counters = s .counters; index = s .index; condition = k }
+-- the length picks the record: the short one up to 48 bytes
+abbrev pub recordFor : Station → ℕ → Condition
+recordFor s bytes = cond (fitsShort bytes) (s .short .condition) (s .long .condition)
+
+abbrev pub withShort : Station → Condition → Station
+withShort s k = record { counters = s .counters; index = s .index; short = holding k; long = s .long }
+
+abbrev pub withLong : Station → Condition → Station
+withLong s k = record { counters = s .counters; index = s .index; short = s .short; long = holding k }
 
 -- the record with a fresh message of this many bytes
 abbrev pub withMessage : Station → ℕ → Station
-withMessage s bytes = withCondition s (Fresh (slotsFor bytes))
+withMessage s bytes = cond (fitsShort bytes) (withShort s (Fresh (slotsFor bytes))) (withLong s (Fresh (slotsFor bytes)))
 
 abbrev pub refusedOffer : Station → ℕ → StationOffered
 refusedOffer s n = record { answer = RefusedOffer n; station = s }
 
--- whether a message of this many bytes can be taken in a condition: 9, 10
-abbrev pub takingNumberOf : Condition → ℕ → ℕ
-takingNumberOf k bytes =
-    unless (isFree k) 9
-    (unless (fitsMessage bytes) 10
+-- whether a station can take a message of this many bytes: 10, 9
+abbrev pub takingNumberOf : Station → ℕ → ℕ
+takingNumberOf s bytes =
+    unless (fitsMessage bytes) 10
+    (unless (isFree (recordFor s bytes)) 9
     0)
 
 unfoldable pub offerNumberOf : Station → ℕ → ℕ
 offerNumberOf s bytes =
     unless (stationWithin s) 18
-    (takingNumberOf (s .condition) bytes)
+    (takingNumberOf s bytes)
 
 unfoldable pub offerOf : Station → ℕ → StationOffered
 offerOf s bytes =
@@ -87,7 +99,7 @@ offerOf s bytes =
 -- ---- a slot: 18, 6, 11, then 1, 3 or 4 of the first bad minislot, 7, 12
 
 abbrev pub refusedSlot : Station → ℕ → StationSlot
-refusedSlot s n = record { answer = RefusedSlot n; station = s }
+refusedSlot s n = record { answer = RefusedSlot n; request = 0; station = s }
 
 -- a row that was heard, a pick in range: 7, 12
 unfoldable pub heardSlotNumberOf : Station → List ℕ → List Feedback → ℕ

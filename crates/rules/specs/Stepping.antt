@@ -1,6 +1,6 @@
--- One station's slot by the slot's outcome: all that a station does after the checks (paper 01, "One slot of group g", 1 and 3 to 5).
--- Assumes nothing.
-use mathlib.Core.Bool.{Bool, cond}
+-- One station's slot by the slot's outcome: all that a station does after the checks (paper 01, "One slot of group g", 1 and 3 to 5;
+-- paper 02, T-04). Assumes nothing.
+use mathlib.Core.Bool.{Bool, true, false, _&&_, cond}
 use mathlib.Core.List.{List}
 use Prim.Native.Nat.{ℕ, _-_}
 use lib.Dec.{eqb}
@@ -13,7 +13,7 @@ use Rattle.rules.specs.declared.StationSlot.{StationSlot}
 use Rattle.rules.specs.declared.SlotAnswer.the-variants.{Went}
 use Rattle.rules.specs.StationLimits.{Condition, Free, Fresh, Asked, Resolving, Urgent, Long}
 use Rattle.rules.specs.Landing.{Gone, at, stands}
-use Rattle.rules.specs.Requesting.{requests, requested}
+use Rattle.rules.specs.Requesting.{requests, requested, totalOf}
 use Rattle.rules.specs.Serving.{sends, moved}
 
 -- step 1: a message that asked in the slot's group g stands where its minislot lands it
@@ -42,13 +42,49 @@ actsAfter o k pick =
 unfoldable pub actsOf : Outcome → Condition → ℕ → Acted
 actsOf o k pick = actsAfter o (settledIn (o .landed) (o .group) k) pick
 
-abbrev pub withActed : Outcome → Station → Acted → StationSlot
-withActed o s x =
+-- a message that does nothing in a slot
+abbrev pub stays : Condition → Acted
+stays k = record { condition = k; minislot = 0; segment = 0 }
+
+abbrev pub isFresh : Condition → Bool
+isFresh Free = false
+isFresh (Fresh t) = true
+isFresh (Asked h j t) = false
+isFresh (Resolving h i t) = false
+isFresh (Urgent i) = false
+isFresh (Long f l t) = false
+
+-- in a slot a station asks for at most one message: of two fresh ones the short one asks, and the long one stays as it is
+unfoldable pub actsBeside : Outcome → Condition → Condition → ℕ → Acted
+actsBeside o short long pick = cond (isFresh short && isFresh long) (stays long) (actsOf o long pick)
+
+-- of what its two records do, first the short one: the station's request is that of the record that asks, its segment that of the record
+-- that sends
+abbrev pub asker : Acted → Acted → Acted
+asker x y = cond (eqb (x .minislot) 0) y x
+
+abbrev pub sender : Acted → Acted → Acted
+sender x y = cond (eqb (x .segment) 0) y x
+
+-- the slot total that a request carries, 0 for none
+abbrev pub requestTotal : Acted → ℕ
+requestTotal x = cond (eqb (x .minislot) 0) 0 (totalOf (x .condition))
+
+abbrev pub withActed : Outcome → Station → Acted → Acted → StationSlot
+withActed o s x y =
     record {
-      answer = Went (o .turn) (x .minislot) (x .segment);
-      station = record { counters = o .counters; index = s .index; condition = x .condition };
+      answer = Went (o .turn) (asker x y .minislot) (sender x y .segment);
+      request = requestTotal (asker x y);
+      station =
+          record {
+            counters = o .counters;
+            index = s .index;
+            short = record { condition = x .condition };
+            long = record { condition = y .condition };
+          };
     }
 
 -- A STATION'S STEP
 unfoldable pub stepOf : Outcome → Station → ℕ → StationSlot
-stepOf o s pick = withActed o s (actsOf o (s .condition) pick)
+stepOf o s pick =
+    withActed o s (actsOf o (s .short .condition) pick) (actsBeside o (s .short .condition) (s .long .condition) pick)

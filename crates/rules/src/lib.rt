@@ -48,7 +48,7 @@ pub enum Turn {
     Open,
 }
 
-// Where a station's message stands (paper: the six conditions of a box).
+// Where a message stands (paper: the six conditions of a box).
 pub enum Condition {
     Free,
     Fresh { total: u8 },
@@ -94,14 +94,22 @@ pub struct Acted {
     pub segment: u8,
 }
 
+// One of the two message records of a station: where its message stands, if it holds one.
+pub struct MessageRecord {
+    pub condition: Condition,
+}
+
 // A station's record (paper: box).
 pub struct Station {
     pub counters: Counters,
     pub index: u16,
-    pub condition: Condition,
+    // the record of a message of one slot, 1 to 48 bytes
+    pub short: MessageRecord,
+    // the record of a longer one, 49 to 12,240 bytes
+    pub long: MessageRecord,
 }
 
-// A message of a table: its station's index, and where it stands.
+// A message record of a table: its station's index, and where its message stands.
 pub struct TableMessage {
     pub index: u16,
     pub condition: Condition,
@@ -165,9 +173,10 @@ pub struct StationOffered {
     pub station: Station,
 }
 
-// A station's slot: the answer, and the record after (as it was if refused).
+// A station's slot: the answer, the slot total that its request carries (0 for none), and the record after (as it was if refused).
 pub struct StationSlot {
     pub answer: SlotAnswer,
+    pub request: u8,
     pub station: Station,
 }
 

@@ -1,15 +1,17 @@
 // Stations' records, calendars, wires and answers as numbers and as comma-separated lines, and records out of the lines of cases, for the
 // programs that check by running.
 //
-// A record's numbers are m, n, the next group, H, N, eight RQ, eight Open marks (1 for yes), the index, and then the condition: 1 free; 2
-// fresh and its total; 3 asked, group, minislot, total; 4 resolving, group, place, total; 5 urgent and its place; 6 long, first, left,
-// total. Calendar and position are not among them: `position,P owned`, with a pair such as `,5:7` for each position that has an owner, is
-// written where they are asked for.
+// A record's numbers are m, n, the next group, H, N, eight RQ, eight Open marks (1 for yes), the index, and then the condition of the
+// short message and that of the long one, four numbers each, 0 where there is nothing to say: 1 free; 2 fresh and its total; 3 asked,
+// group, minislot, total; 4 resolving, group, place, total; 5 urgent and its place; 6 long, first, left, total. Calendar and position are
+// not among them: `position,P owned`, with a pair such as `,5:7` for each position that has an owner, is written where they are asked
+// for.
 use calendars::FREE;
 use rules::Answer;
 use rules::CalendarAnswer;
 use rules::Condition;
 use rules::Counters;
+use rules::MessageRecord;
 use rules::StartAnswer;
 use rules::Station;
 use rules::Turn;
@@ -27,18 +29,12 @@ use runs_text::text;
 use runs_text::word;
 use runs_text::worded;
 ghost use mathlib.Core.Path.{_≡_};
-ghost use Prim.Native.Nat.{_≤_};
 ghost use lib.ListN.{length};
-
-// A record's numbers, and how many there are.
-pub struct Numbers {
-    pub all: [u64; 26],
-    pub count: usize,
-}
 
 // ---- as numbers
 
-fn condition_numbers(k: Condition) -> [u64; 4] {
+fn message_numbers(m: MessageRecord) -> [u64; 4] {
+    let k = m.condition;
     match k {
         Condition::Free => [1, 0, 0, 0],
         Condition::Fresh { total } => [2, total as u64, 0, 0],
@@ -57,23 +53,11 @@ fn condition_numbers(k: Condition) -> [u64; 4] {
     }
 }
 
-// How many numbers a record has with a condition of this number.
-fn count_with(condition: u64) -> usize
-    ensures { λ r. ⌜ r ≤ 26 ⌝ }
-{
-    match condition {
-        1 => 23,
-        2 => 24,
-        5 => 24,
-        _ => 26,
-    }
-}
-
 // The numbers of eight RQ and eight Open marks, where a record has them.
-fn queue_numbers(resolution: [u16; 8], opened: [bool; 8]) -> [u64; 26]
-    ensures { λ r. ⌜ length r ≡ 26 ⌝ }
+fn queue_numbers(resolution: [u16; 8], opened: [bool; 8]) -> [u64; 30]
+    ensures { λ r. ⌜ length r ≡ 30 ⌝ }
 {
-    let mut all = [0u64; 26];
+    let mut all = [0u64; 30];
     let mut g: usize = 0;
     while g < 8 {
         all[g + 5] = resolution[g] as u64;
@@ -84,8 +68,8 @@ fn queue_numbers(resolution: [u16; 8], opened: [bool; 8]) -> [u64; 26]
 }
 
 // The counters' numbers, the first 21 of a record.
-pub fn counters_numbers(c: Counters) -> [u64; 26]
-    ensures { λ r. ⌜ length r ≡ 26 ⌝ }
+pub fn counters_numbers(c: Counters) -> [u64; 30]
+    ensures { λ r. ⌜ length r ≡ 30 ⌝ }
 {
     let resolution = c.resolution;
     let opened = c.opened;
@@ -98,21 +82,21 @@ pub fn counters_numbers(c: Counters) -> [u64; 26]
     all
 }
 
-pub fn record_numbers(s: Station) -> Numbers
-    ensures { λ r. ⌜ (length (r .all) ≡ 26) × (r .count ≤ 26) ⌝ }
+fn record_numbers(s: Station) -> [u64; 30]
+    ensures { λ r. ⌜ length r ≡ 30 ⌝ }
 {
     let c = s.counters;
-    let k = s.condition;
-    let condition = condition_numbers(k);
+    let short = message_numbers(s.short);
+    let long = message_numbers(s.long);
     let mut all = counters_numbers(c);
     all[21] = s.index as u64;
     let mut i: usize = 0;
     while i < 4 {
-        all[i + 22] = condition[i];
+        all[i + 22] = short[i];
+        all[i + 26] = long[i];
         i += 1;
     }
-    let count = count_with(condition[0]);
-    Numbers { all, count }
+    all
 }
 
 // The word and the count of each minislot of a wire, group after group.
@@ -135,15 +119,12 @@ pub fn wire_numbers(wire: [WireRow; 8]) -> [u64; 128]
 // ---- as lines
 
 pub fn record_line(s: Station) {
-    let r = record_numbers(s);
-    let all = r.all;
-    let count = r.count;
+    let all = record_numbers(s);
     worded(
-        b"record,#,#,#,#,#,#,#,#,#,#,#,#,#,?,?,?,?,?,?,?,?,#,@",
+        b"record,#,#,#,#,#,#,#,#,#,#,#,#,#,?,?,?,?,?,?,?,?,#,@,#,#,#,@,#,#,#\n",
         b"free fresh asked resolving urgent long ",
-        &all[0..count],
+        &all,
     );
-    text(b"\n");
 }
 
 pub fn refused_line(number: u8) {
@@ -308,8 +289,22 @@ fn condition(number: u64, g: Group) -> Condition {
     }
 }
 
-// The condition that stands at a place of a line.
-pub fn condition_of(line: &[u8], at: usize) -> Condition {
+// The message whose condition stands at a place of a line.
+fn message_of(line: &[u8], at: usize) -> MessageRecord {
     let number = which(line, at, b"free fresh asked resolving urgent long ");
-    condition(number, group_at(line, at))
+    MessageRecord {
+        condition: condition(number, group_at(line, at)),
+    }
+}
+
+// A record with these counters and this index, whose conditions stand from a place of a line on, the short message's and then the long
+// one's.
+pub fn station_of(counters: Counters, index: u16, line: &[u8], at: usize) -> Station {
+    let second = group_at(line, at).next;
+    Station {
+        counters,
+        index,
+        short: message_of(line, at),
+        long: message_of(line, second),
+    }
 }

@@ -8,7 +8,7 @@ ghost use lib.ListN.{length};
 ghost use Rattle.segments.specs.Segment.{segmentOf, segmentNumber};
 
 // A refusal of a segment: its number, and an empty part.
-fn refuse<'a>(message: &'a [u8], refusal: u8, number: &mut u8) -> &'a [u8]
+pub fn refuse<'a>(message: &'a [u8], refusal: u8, number: &mut u8) -> &'a [u8]
     ensures part { λ r. ⌜ now r ≡ [] ⌝ }
     ensures told { λ r. ⌜ now (number .exit) ≡ refusal ⌝ }
 {

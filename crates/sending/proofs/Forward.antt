@@ -96,7 +96,7 @@ module _ (done : List StationSlot) (r : StationSlot) (few : length done < 255) (
           } ≡ sentOf (done ++ (r ∷ []))
       last a e = rw (row-more done r here, data-more done r, e)
 
-      go : (a : SlotAnswer) → r .answer ≡ a → gatheredBy (sentOf done) (r .station) a ≡ sentOf (done ++ (r ∷ []))
+      go : (a : SlotAnswer) → r .answer ≡ a → gatheredBy (sentOf done) r a ≡ sentOf (done ++ (r ∷ []))
       go (Went turn minislot segment) e = rw (with-data turn minislot segment) (last (Went turn minislot segment) e)
       go (Refused n) e = rw (← append-nil (dataSent done)) (last (Refused n) e)
 

@@ -1,11 +1,9 @@
 // What the stations of a channel send in a slot, gathered one station after the other: the group's new row and the data senders.
 use minislot::Minislot;
-use requesting::total_of;
 use requests::carry;
 use requests::place;
 use rules::Sent;
 use rules::SlotAnswer;
-use rules::Station;
 use rules::StationSlot;
 use rules::Turn;
 ghost use mathlib.Core.Path.{_≡_};
@@ -28,15 +26,14 @@ pub fn silence() -> Sent
     }
 }
 
-// A station's request joins its minislot of the row; 0 for none.
-fn place_request(minislot: u8, s: Station, row: [Minislot; 8]) -> [Minislot; 8]
-    ensures { λ r. ⌜ r ≡ placed minislot (carries (stationRequest s)) row ⌝ }
+// A station's request, of its index and the slot total of the message that it asks for, joins its minislot of the row; 0 for none.
+fn place_request(minislot: u8, index: u16, total: u8, row: [Minislot; 8]) -> [Minislot; 8]
+    ensures { λ r. ⌜ r ≡ placed minislot (carries (stationRequest index total)) row ⌝ }
 {
     if minislot < 1 {
         return row;
     }
-    let k = s.condition;
-    place(minislot, carry(s.index, total_of(k)), row)
+    place(minislot, carry(index, total), row)
 }
 
 fn one_more(senders: u8) -> u8
@@ -91,17 +88,17 @@ pub fn gather(r: StationSlot, sent: Sent) -> Sent
     ensures { λ q. ⌜ q ≡ gathered sent r ⌝ }
 {
     let answer = r.answer;
-    let s = r.station;
+    let index = r.station.index;
     match answer {
         SlotAnswer::Went {
             turn,
             minislot,
             segment,
         } => {
-            let data = add_data(turn, s.index, segment, sent);
+            let data = add_data(turn, index, segment, sent);
             let row = data.minislots;
             Sent {
-                minislots: place_request(minislot, s, row),
+                minislots: place_request(minislot, index, r.request, row),
                 senders: data.senders,
                 index: data.index,
                 segment: data.segment,

@@ -13,6 +13,8 @@ use Rattle.minislot.specs.declared.Feedback.the-variants.{Empty, Single, Collid
 use Rattle.minislot.specs.declared.Minislot.{Minislot}
 use Rattle.listlaws.specs.Lists.{each}
 use Rattle.listlaws.specs.Steps.{allSteps, eachWith}
+use Rattle.rules.specs.declared.Acted.{Acted}
+use Rattle.rules.specs.declared.Condition.{Condition}
 use Rattle.rules.specs.declared.Outcome.{Outcome}
 use Rattle.rules.specs.declared.Station.{Station}
 use Rattle.rules.specs.declared.StationSlot.{StationSlot}
@@ -24,7 +26,7 @@ use Rattle.rules.specs.Queueing.{placesAfter, passes, stepOneOf}
 use Rattle.rules.specs.Requesting.{requests}
 use Rattle.channel_rules.specs.Soundness.{tableCounters}
 use Rattle.rules.specs.StationCalls.{noStation, slotOf}
-use Rattle.rules.specs.Stepping.{requestMinislot, settledIn, actsOf, stepOf}
+use Rattle.rules.specs.Stepping.{requestMinislot, settledIn, actsOf, stays, isFresh, actsBeside, asker, stepOf}
 use Rattle.channel_rules.specs.ChannelCalls.{Channel, heardRow, feedbackHeard, outcomeHeard, slotsOf, slotsHeard, sentOf}
 use Rattle.sound_slots.proofs.ChannelLaws.{limits, row-length, station-goes}
 use Rattle.channel_rules.proofs.Gathering.{slots-length, InRow}
@@ -58,13 +60,34 @@ records-are o (s ∷ l) [] e = absurd (omega arith)
 records-are o (s ∷ l) (k ∷ ks) e = ap (λ (z : List Station). stationAfter o s k ∷ z) (records-are o l ks (omega arith))
 
 -- a pick of eight minislots is the minislot of the request, or there is none
-step-in-row : (o : Outcome) (s : Station) (k : ℕ) → k ≤ 8 → InRow (stepOf o s k .answer)
-unfolding stepOf actsOf
-step-in-row o s k h = go (requests (o .resolution) (o .group) (settledIn (o .landed) (o .group) (s .condition)))
+acts-in-row : (o : Outcome) (c : Condition) (k : ℕ) → k ≤ 8 → actsOf o c k .minislot ≤ 8
+unfolding actsOf
+acts-in-row o c k h = go (requests (o .resolution) (o .group) (settledIn (o .landed) (o .group) c))
   where
     go : (b : Bool) → requestMinislot b k ≤ 8
     go true = h
     go false = omega arith
+
+beside-in-row : (o : Outcome) (a b : Condition) (k : ℕ) → k ≤ 8 → actsBeside o a b k .minislot ≤ 8
+unfolding actsBeside
+beside-in-row o a b k h = go (isFresh a && isFresh b)
+  where
+    go : (both : Bool) → (cond both (stays b) (actsOf o b k)) .minislot ≤ 8
+    go true = omega arith
+    go false = acts-in-row o b k h
+
+asker-in-row : (x y : Acted) → x .minislot ≤ 8 → y .minislot ≤ 8 → asker x y .minislot ≤ 8
+asker-in-row x y p q = go (eqb (x .minislot) 0)
+  where
+    go : (none : Bool) → (cond none y x) .minislot ≤ 8
+    go true = q
+    go false = p
+
+step-in-row : (o : Outcome) (s : Station) (k : ℕ) → k ≤ 8 → InRow (stepOf o s k .answer)
+unfolding stepOf
+step-in-row o s k h =
+    asker-in-row (actsOf o (s .short .condition) k) (actsBeside o (s .short .condition) (s .long .condition) k)
+    (acts-in-row o (s .short .condition) k h) (beside-in-row o (s .short .condition) (s .long .condition) k h)
 
 all-in-row : (o : Outcome) (m : ℕ) → m ≤ 8 → (l : List Station) (ks : List ℕ) → each (λ (pick : ℕ). between 1 pick m) ks ≡ true → AllInRow (eachWith (stepOf o) l ks)
 all-in-row o m h [] ks e = tt

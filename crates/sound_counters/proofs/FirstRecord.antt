@@ -16,7 +16,8 @@ blank =
     record {
       counters = record { minislots = 0; groups = 0; next = 0; urgent = 0; long = 0; resolution = []; opened = []; calendar = []; position = 0 };
       index = 0;
-      condition = Free;
+      short = record { condition = Free };
+      long = record { condition = Free };
     }
 
 pub first-counters : (l : List Station) (n : ℕ) → 1 ≤ n → 1 ≤ length l → getD l 0 blank .counters ≡ tableCounters (take n l)

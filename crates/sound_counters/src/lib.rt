@@ -9,7 +9,7 @@ ghost use mathlib.Core.Path.{_≡_};
 ghost use lib.ListN.{take};
 ghost use Rattle.channel_rules.specs.Soundness.{tableCounters, countersShared};
 
-// The counters of a table: those of its first record, and those that stand for none where it has no record.
+// The counters of a table: those of its first station, and those that stand for none where it has no station.
 pub fn table_counters(stations: [Station; 64], count: usize) -> Counters
     ensures { λ r. ⌜ r ≡ tableCounters (take count stations) ⌝ }
 {
@@ -21,7 +21,7 @@ pub fn table_counters(stations: [Station; 64], count: usize) -> Counters
     first.counters
 }
 
-// The clause for the first `count` records, or for all 64 where there are no more.
+// The clause for the first `count` stations, or for all 64 where there are no more.
 pub fn counters_shared(stations: [Station; 64], count: usize) -> bool
     ensures { λ r. ⌜ r ≡ countersShared (take count stations) ⌝ }
 {

@@ -44,4 +44,4 @@ abbrev pub leftIn : Stretch → ℕ
 leftIn s = s .left
 
 abbrev pub drawnStretches : List Stretch → DrawnStretches
-drawnStretches l = record { firsts = padded 64 0 (map firstIn l); lefts = padded 64 0 (map leftIn l); count = length l }
+drawnStretches l = record { firsts = padded 128 0 (map firstIn l); lefts = padded 128 0 (map leftIn l); count = length l }

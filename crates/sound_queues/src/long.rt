@@ -25,8 +25,8 @@ const NOT_LONG: FoundStretch = FoundStretch {
 
 // The stretches that messages hold: the first `count` of the two lists.
 struct DrawnStretches {
-    firsts: [u16; 64],
-    lefts: [u8; 64],
+    firsts: [u16; 128],
+    lefts: [u8; 128],
     count: usize,
 }
 
@@ -49,12 +49,12 @@ fn long_stretch(condition: Condition) -> FoundStretch
 }
 
 // The stretches that the first `count` messages hold of the long queue.
-fn long_stretches(messages: [TableMessage; 64], count: usize) -> DrawnStretches
-    requires { ⌜ count ≤ 64 ⌝ }
+fn long_stretches(messages: [TableMessage; 128], count: usize) -> DrawnStretches
+    requires { ⌜ count ≤ 128 ⌝ }
     ensures { λ r. ⌜ r ≡ drawnStretches (longStretches (take count messages)) ⌝ }
 {
-    let mut firsts = [0u16; 64];
-    let mut lefts = [0u8; 64];
+    let mut firsts = [0u16; 128];
+    let mut lefts = [0u8; 128];
     let mut n: usize = 0;
     let mut i: usize = 0;
     while i < count {
@@ -75,11 +75,11 @@ fn long_stretches(messages: [TableMessage; 64], count: usize) -> DrawnStretches
     }
 }
 
-// The clause for a queue of so many places, on the first `count` messages, or on all 64 where there are no more.
-pub fn long_sound(messages: [TableMessage; 64], count: usize, queue: u16) -> bool
+// The clause for a queue of so many places, on the first `count` messages, or on all 128 where there are no more.
+pub fn long_sound(messages: [TableMessage; 128], count: usize, queue: u16) -> bool
     ensures { λ r. ⌜ r ≡ covered (longStretches (take count messages)) queue ⌝ }
 {
-    let end = least(count, 64);
+    let end = least(count, 128);
     let stretches = long_stretches(messages, end);
     let n = stretches.count;
     let firsts = stretches.firsts;

@@ -38,11 +38,11 @@ fn urgent_place(condition: Condition) -> FoundPlace
 }
 
 // The places that the first `count` messages hold in the urgent queue.
-fn urgent_places(messages: [TableMessage; 64], count: usize) -> DrawnPlaces
-    requires { ⌜ count ≤ 64 ⌝ }
+fn urgent_places(messages: [TableMessage; 128], count: usize) -> DrawnPlaces
+    requires { ⌜ count ≤ 128 ⌝ }
     ensures { λ r. ⌜ r ≡ drawnPlaces (urgentPlaces (take count messages)) ⌝ }
 {
-    let mut list = [0u16; 64];
+    let mut list = [0u16; 128];
     let mut n: usize = 0;
     let mut i: usize = 0;
     while i < count {
@@ -58,11 +58,11 @@ fn urgent_places(messages: [TableMessage; 64], count: usize) -> DrawnPlaces
     DrawnPlaces { list, count: n }
 }
 
-// The clause for a queue of so many places, on the first `count` messages, or on all 64 where there are no more.
-pub fn urgent_sound(messages: [TableMessage; 64], count: usize, queue: u16) -> bool
+// The clause for a queue of so many places, on the first `count` messages, or on all 128 where there are no more.
+pub fn urgent_sound(messages: [TableMessage; 128], count: usize, queue: u16) -> bool
     ensures { λ r. ⌜ r ≡ takenOnce (urgentPlaces (take count messages)) queue ⌝ }
 {
-    let end = least(count, 64);
+    let end = least(count, 128);
     let places = urgent_places(messages, end);
     let n = places.count;
     let list = places.list;

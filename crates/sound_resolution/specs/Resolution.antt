@@ -36,7 +36,7 @@ abbrev pub groupPlacesOf : List TableMessage → List GroupPlace
 groupPlacesOf messages = gatherOf groupPlaceIn messages
 
 abbrev pub drawnGroupPlaces : List GroupPlace → DrawnGroupPlaces
-drawnGroupPlaces l = record { list = padded 64 noGroupPlace l; count = length l }
+drawnGroupPlaces l = record { list = padded 128 noGroupPlace l; count = length l }
 
 -- the place, if it is of group g
 abbrev pub placeIn : ℕ → GroupPlace → List ℕ

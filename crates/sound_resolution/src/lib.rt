@@ -35,7 +35,7 @@ const NOT_RESOLVING: FoundGroupPlace = FoundGroupPlace {
 
 // The places that messages hold in all groups: the first `count` of the list.
 struct DrawnGroupPlaces {
-    list: [GroupPlace; 64],
+    list: [GroupPlace; 128],
     count: usize,
 }
 
@@ -57,11 +57,11 @@ fn resolving_place(condition: Condition) -> FoundGroupPlace
 }
 
 // The places that the first `count` messages hold in the resolution queues.
-fn resolving_places(messages: [TableMessage; 64], count: usize) -> DrawnGroupPlaces
-    requires { ⌜ count ≤ 64 ⌝ }
+fn resolving_places(messages: [TableMessage; 128], count: usize) -> DrawnGroupPlaces
+    requires { ⌜ count ≤ 128 ⌝ }
     ensures { λ r. ⌜ r ≡ drawnGroupPlaces (groupPlacesOf (take count messages)) ⌝ }
 {
-    let mut list = [NO_PLACE; 64];
+    let mut list = [NO_PLACE; 128];
     let mut n: usize = 0;
     let mut i: usize = 0;
     while i < count {
@@ -79,11 +79,11 @@ fn resolving_places(messages: [TableMessage; 64], count: usize) -> DrawnGroupPla
 }
 
 // The places found in one group's queue.
-fn places_in(found: [GroupPlace; 64], count: usize, group: u8) -> DrawnPlaces
-    requires { ⌜ count ≤ 64 ⌝ }
+fn places_in(found: [GroupPlace; 128], count: usize, group: u8) -> DrawnPlaces
+    requires { ⌜ count ≤ 128 ⌝ }
     ensures { λ r. ⌜ r ≡ drawnPlaces (gatherOf (placeIn group) (take count found)) ⌝ }
 {
-    let mut list = [0u16; 64];
+    let mut list = [0u16; 128];
     let mut n: usize = 0;
     let mut i: usize = 0;
     while i < count {
@@ -98,8 +98,8 @@ fn places_in(found: [GroupPlace; 64], count: usize, group: u8) -> DrawnPlaces
 }
 
 // One group's queue, of so many places.
-fn group_sound(found: [GroupPlace; 64], count: usize, group: u8, queue: u16) -> bool
-    requires { ⌜ count ≤ 64 ⌝ }
+fn group_sound(found: [GroupPlace; 128], count: usize, group: u8, queue: u16) -> bool
+    requires { ⌜ count ≤ 128 ⌝ }
     ensures { λ r. ⌜ r ≡ crowded (gatherOf (placeIn group) (take count found)) queue ⌝ }
 {
     let places = places_in(found, count, group);
@@ -108,11 +108,11 @@ fn group_sound(found: [GroupPlace; 64], count: usize, group: u8, queue: u16) -> 
     crowded(&list[..n], queue)
 }
 
-// The clause for queues of so many places, group g's at g − 1, on the first `count` messages, or on all 64 where there are no more.
-pub fn resolution_sound(messages: [TableMessage; 64], count: usize, queues: [u16; 8]) -> bool
+// The clause for queues of so many places, group g's at g − 1, on the first `count` messages, or on all 128 where there are no more.
+pub fn resolution_sound(messages: [TableMessage; 128], count: usize, queues: [u16; 8]) -> bool
     ensures { λ r. ⌜ r ≡ queuesSound (take count messages) queues ⌝ }
 {
-    let found = resolving_places(messages, least(count, 64));
+    let found = resolving_places(messages, least(count, 128));
     let n = found.count;
     let list = found.list;
     let mut g: usize = 0;

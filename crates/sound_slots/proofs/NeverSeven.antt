@@ -1,14 +1,15 @@
 -- A channel's slot never answers 7. On a sound table each place of a queue is a station's: H is at most the number of stations, N at most 255 slots for each of
--- them, and each RQ at most half their number (specs/Room). The row heard has at most 8 minislots, and a Single there is one asked station's own total, at most
--- 255: H grows by at most 8, N by 2,040 and RQ by 8. So with 64 stations H is at most 72 after step 1, N 18,360 and RQ 40. Assumes nothing.
+-- them, and each RQ at most their number, since both records of each may wait there (specs/Room). The row heard has at most 8 minislots, and a Single there is
+-- one asked station's own total, at most 255: H grows by at most 8, N by 2,040 and RQ by 8. So with 64 stations H is at most 72 after step 1, N 18,360 and RQ
+-- 72. Assumes nothing.
 use mathlib.Core.Path.{_≡_, refl, ap}
 use mathlib.Core.Bool.{Bool, true, false, cond, _&&_, _||_, true≢false}
-use mathlib.Core.List.{List, [], _∷_}
+use mathlib.Core.List.{List, [], _∷_, _++_}
 use mathlib.Core.Logic.{_≢_}
 use Prim.Native.Nat.{ℕ, zero, suc, _+_, _*_, _≤_, _<_}
 use native.Mathlib.Omega.{arith}
 use lib.Dec.{eqb}
-use lib.ListN.{length, getD, length-append}
+use lib.ListN.{length, length-append}
 use borrow.Author.Tests.{eqb-true, eqb-false, le-ltb}
 use Rattle.minislot.specs.declared.Feedback.{Feedback}
 use Rattle.rules.specs.declared.Counters.{Counters}
@@ -21,8 +22,8 @@ use Rattle.rules.specs.Queueing.{placesOf, immediateOf, placesAfter, passes, st
 use Rattle.edges.specs.Changes.{shortSingles, longSlots, collides}
 use Rattle.rules.specs.declared.Condition.{Condition}
 use Rattle.rules.specs.declared.Condition.the-variants.{Free, Fresh, Asked, Resolving, Urgent, Long}
-use Rattle.rules.specs.StationLimits.{resolutionAt, conditionWithin, isTotal}
-use Rattle.rules.specs.StationCalls.{noStation}
+use Rattle.rules.specs.StationLimits.{resolutionAt, conditionWithin, shortWithin, longWithin, isTotal}
+use Rattle.rules.specs.Messages.{shortRecord, longRecord}
 use Rattle.stretches.specs.declared.Stretch.{Stretch}
 use Rattle.places.specs.Places.{differ}
 use Rattle.stretches.specs.Stretches.{apart}
@@ -33,20 +34,21 @@ use Rattle.channel_rules.specs.ChannelCalls.{Channel, hasStations, refused, fee
 use Rattle.rules.specs.Refusing.{unless, byNumber}
 use Rattle.rules.proofs.QueueingLaws.{fits-if}
 use Rattle.rules.specs.declared.Answer.the-variants.{Refused}
-use Rattle.rules.specs.Calls.{index}
+use Rattle.rules.proofs.Parting.{no-true}
+use Rattle.rules.proofs.Records.{by-kind}
 use Rattle.rules.proofs.Views.{Sender, senderAt}
 use Rattle.rules.proofs.Clauses.{hearing}
-use Rattle.rules.proofs.Shared.{collect, gather, askedSender, askedRow}
+use Rattle.rules.proofs.Shared.{collect, gather, indexOf, askedSender, askedRow}
 use Rattle.rules.proofs.SlotStep.{and-both}
 use Rattle.listlaws.proofs.Joining.{sum-append}
-use Rattle.rules.proofs.LimitLaws.{between-bounds, station-in}
+use Rattle.rules.proofs.LimitLaws.{between-bounds}
 use Rattle.channel_rules.proofs.SoundTests.{sound-tests}
 use Rattle.listlaws.proofs.Totals.{total}
 use Rattle.places.proofs.Counting.{times, length-places}
-use Rattle.channel_rules.proofs.SoundLists.{AllWithin, long-parts, resolvings-inside, resolvings-times}
+use Rattle.channel_rules.proofs.SoundLists.{AllWithin, long-parts, resolvings-inside, resolvings-times, stations-messages}
 use Rattle.channel_rules.proofs.SoundMeans.{all-in, sound-says}
 use Rattle.edges.proofs.ChangesHold.{added}
-use Rattle.sound_slots.proofs.ChannelLaws.{limits, each-within, startMade, rowHere, row-asked}
+use Rattle.sound_slots.proofs.ChannelLaws.{limits, startMade, conditionIn, records-within, rowHere, row-asked}
 
 -- ---- lists joined from at most one entry each
 
@@ -75,6 +77,25 @@ resolving-one g (Resolving h i t) = go (eqb h g)
 resolving-one g (Urgent i) = omega arith
 resolving-one g (Long f l t) = omega arith
 
+-- a short record has no stretch, a long one no place of H
+short-none : (k : Condition) → shortWithin k ≡ true → longStretch k ≡ []
+unfolding shortWithin
+short-none Free e = refl
+short-none (Fresh t) e = refl
+short-none (Asked g j t) e = refl
+short-none (Resolving g i t) e = refl
+short-none (Urgent i) e = refl
+short-none (Long f l t) e = absurd (no-true e)
+
+long-none : (k : Condition) → longWithin k ≡ true → urgentPlace k ≡ []
+unfolding longWithin
+long-none Free e = refl
+long-none (Fresh t) e = refl
+long-none (Asked g j t) e = refl
+long-none (Resolving g i t) e = refl
+long-none (Urgent i) e = absurd (no-true e)
+long-none (Long f l t) e = refl
+
 -- the slots left of a station within its limits, and of all of them
 left-most : (c : Counters) (k : Condition) → conditionWithin c k ≡ true → sumOf (λ (s : Stretch). s .left) (longStretch k) ≤ 255
 left-most c Free e = omega arith
@@ -89,9 +110,24 @@ lefts-most c [] w = omega arith
 lefts-most c (s ∷ l) w =
     omega (
       arith,
-      sum-append (λ (s : Stretch). s .left) (longStretch (s .condition)) (longStretches (messagesOf l)),
-      left-most c (s .condition) (w .0),
+      sum-append (λ (s : Stretch). s .left) (longStretch (s .short .condition)) (longStretch (s .long .condition) ++ longStretches (messagesOf l)),
+      sum-append (λ (s : Stretch). s .left) (longStretch (s .long .condition)) (longStretches (messagesOf l)),
+      ap (sumOf (λ (s : Stretch). s .left)) (short-none (s .short .condition) (w .0 .brief)),
+      left-most c (s .long .condition) (w .0 .long),
       lefts-most c l (w .1),
+    )
+
+-- a place of H for each station at most: the long record has none
+urgents-most : (c : Counters) (l : List Station) → AllWithin c l → length (urgentPlaces (messagesOf l)) ≤ length l
+urgents-most c [] w = omega arith
+urgents-most c (s ∷ l) w =
+    omega (
+      arith,
+      length-append (urgentPlace (s .short .condition)) (urgentPlace (s .long .condition) ++ urgentPlaces (messagesOf l)),
+      length-append (urgentPlace (s .long .condition)) (urgentPlaces (messagesOf l)),
+      urgent-one (s .short .condition),
+      ap length (long-none (s .long .condition) (w .0 .lengthy)),
+      urgents-most c l (w .1),
     )
 
 -- ---- a row of n minislots
@@ -164,10 +200,10 @@ total-twice : (K : ℕ) (f : ℕ → ℕ) → ((i : ℕ) → i < K → 2 ≤ f i
 total-twice zero f h = omega arith
 total-twice (suc K) f h = omega (arith, h K (omega arith), total-twice K f (λ i w. h i (omega arith)))
 
--- a table has a message for each station
-message-count : (l : List Station) → length (messagesOf l) ≡ length l
+-- a table has two message records for each station
+message-count : (l : List Station) → length (messagesOf l) ≡ 2 * length l
 message-count [] = refl
-message-count (s ∷ l) = ap suc (message-count l)
+message-count (s ∷ l) = omega (arith, message-count l)
 
 -- A SOUND TABLE'S COUNTERS, by the number of its stations
 pub sound-room : (stations : List Station) (wire : List WireRow) → soundTable stations wire ≡ true → Room stations
@@ -179,7 +215,7 @@ sound-room stations wire sound =
     let h = eqb-true (length (urgentPlaces (messagesOf stations))) (c .urgent) (and-both _ (eachPair differ (urgentPlaces (messagesOf stations))) (tests .urgent) .0) in
     let n = eqb-true (sumOf (λ (s : Stretch). s .left) (longStretches (messagesOf stations))) (c .long) (and-both _ (eachPair apart (longStretches (messagesOf stations))) (tests .long) .0) in
     record {
-      urgent = omega (arith, message-count stations, gather-most (λ (m : TableMessage). urgentPlace (m .condition)) (λ m. urgent-one (m .condition)) (messagesOf stations));
+      urgent = omega (arith, urgents-most c stations inside);
       long = omega (arith, lefts-most c stations inside);
       resolution = λ g lo hi.
           omega (
@@ -194,7 +230,9 @@ sound-room stations wire sound =
     twice : (g : ℕ) → 1 ≤ g → g ≤ 8 → 2 * resolutionAt (tableCounters stations) g ≤ total (resolutionAt (tableCounters stations) g) (λ i. times (suc i) (resolvingPlaces g (messagesOf stations)))
     twice g lo hi =
         total-twice (resolutionAt (tableCounters stations) g) (λ i. times (suc i) (resolvingPlaces g (messagesOf stations)))
-        (λ i h. rw (resolvings-times g (suc i) stations) (sound-says stations wire sound .resolution g (suc i) lo hi (omega arith) (omega arith)))
+        (λ i h.
+        rw (resolvings-times g (suc i) stations, stations-messages (tableCounters stations) g (suc i) stations (all-in stations wire sound))
+        (sound-says stations wire sound .resolution g (suc i) lo hi (omega arith) (omega arith)))
 
 -- ---- a slot on it
 
@@ -202,9 +240,20 @@ sound-room stations wire sound =
 row-few : (stations : List Station) (wire : List WireRow) (some : 1 ≤ length stations) (sound : soundTable stations wire ≡ true) → AtMost (tableCounters stations .minislots) (rowHere stations wire some sound)
 row-few stations wire some sound =
     rw (row-asked stations wire some sound)
-    (row-most (index (startMade stations)) (length stations) (λ k. getD stations k noStation .condition) (tableCounters stations .next)
-    (λ j k h. asked-most (stationAt stations k .counters) (tableCounters stations .next) j k (stationAt stations k .condition) (station-in (stationAt stations k) (each-within stations wire some sound k h) .condition))
+    (row-most (indexOf (startMade stations)) (shortRecord (length stations)) (conditionIn stations) (tableCounters stations .next)
+    (λ j r h. by-kind (λ (r : ℕ). r < shortRecord (length stations) → Few j r) (short-few j) (long-few j) r h)
     (tableCounters stations .minislots) 1)
+  where
+    Few : ℕ → ℕ → Type 0
+    Few j r = sent (askedSender (tableCounters stations .next) j r (conditionIn stations r)) ≤ 255 * length (askedSender (tableCounters stations .next) j r (conditionIn stations r))
+
+    short-few : (j k : ℕ) → shortRecord k < shortRecord (length stations) → Few j (shortRecord k)
+    short-few j k h =
+        asked-most (stationAt stations k .counters) (tableCounters stations .next) j (shortRecord k) (conditionIn stations (shortRecord k)) (records-within stations wire some sound k (omega arith) .short)
+
+    long-few : (j k : ℕ) → longRecord k < shortRecord (length stations) → Few j (longRecord k)
+    long-few j k h =
+        asked-most (stationAt stations k .counters) (tableCounters stations .next) j (longRecord k) (conditionIn stations (longRecord k)) (records-within stations wire some sound k (omega arith) .long)
 
 -- NO COUNTER PASSES ITS LIMIT in step 1
 pub never-passes : (ch : Channel) → hasStations (ch .stations) ≡ true → soundTable (ch .stations) (ch .wire) ≡ true

@@ -2,7 +2,7 @@
 -- and it sends no segment; who sends is then the stations of that index, and that is one, since indexes are distinct and every owner is on the table.
 -- Assumes nothing.
 use mathlib.Core.Path.{_≡_, refl, sym, ap, _∙_}
-use mathlib.Core.Bool.{Bool, true, false}
+use mathlib.Core.Bool.{Bool, true, false, _&&_, cond}
 use mathlib.Core.List.{List, [], _∷_, _++_}
 use mathlib.Core.Option.{some}
 use Prim.Native.Nat.{ℕ, zero, suc, _+_, _<_}
@@ -13,6 +13,7 @@ use borrow.Author.Tests.{eqb-true, eqb-false, ne-eqb}
 use Rattle.rules.specs.declared.Outcome.{Outcome}
 use Rattle.rules.specs.declared.Station.{Station}
 use Rattle.rules.specs.declared.StationSlot.{StationSlot}
+use Rattle.rules.specs.declared.Condition.{Condition}
 use Rattle.rules.specs.declared.Turn.{Turn}
 use Rattle.rules.specs.declared.Turn.the-variants.{Owned as OwnedTurn}
 use Rattle.rules.specs.declared.Answer.the-variants.{Went}
@@ -23,7 +24,7 @@ use Rattle.rules.specs.Queueing.{stepOneOf}
 use Rattle.rules.specs.Turns.{turnOf}
 use Rattle.rules.specs.Serving.{sends}
 use Rattle.rules.specs.Outcome.{outcomeBy, outcomeOf}
-use Rattle.rules.specs.Stepping.{actsOf, stepOf}
+use Rattle.rules.specs.Stepping.{isFresh, stays, actsOf, actsBeside, stepOf}
 use Rattle.rules.specs.StationCalls.{slotOf}
 use Rattle.channel_rules.specs.Soundness.{otherIndex, indexesDistinct, tableCounters, soundTable}
 use Rattle.channel_rules.specs.SoundMeaning.{stationAt}
@@ -66,13 +67,26 @@ one-stream x (s ∷ l) e k h q =
 -- ---- a station's step in an owned slot
 
 module _ (o : Outcome) (x : ℕ) (owned : o .turn ≡ OwnedTurn x) where
+  -- neither record sends a segment
+  short-silent : (k : Condition) (pick : ℕ) → actsOf o k pick .segment ≡ 0
+  unfolding actsOf sends
+  short-silent k pick = rw owned
+
+  long-silent : (a b : Condition) (pick : ℕ) → actsBeside o a b pick .segment ≡ 0
+  unfolding actsBeside
+  long-silent a b pick = go (isFresh a && isFresh b)
+    where
+      go : (x : Bool) → (cond x (stays b) (actsOf o b pick)) .segment ≡ 0
+      go true = refl
+      go false = short-silent b pick
+
   step-data : (s : Station) (pick : ℕ) → dataIn (stepOf o s pick) (stepOf o s pick .answer) ≡ streamOf x s
-  unfolding stepOf actsOf sends
-  step-data s pick = rw owned
+  unfolding stepOf
+  step-data s pick = rw (short-silent (s .short .condition) pick, long-silent (s .short .condition) (s .long .condition) pick, owned)
 
   step-segment : (s : Station) (pick : ℕ) → segmentOf (stepOf o s pick .answer) ≡ 0
-  unfolding stepOf actsOf sends
-  step-segment s pick = rw owned
+  unfolding stepOf
+  step-segment s pick = rw (short-silent (s .short .condition) pick) (long-silent (s .short .condition) (s .long .condition) pick)
 
   -- all stations' slots are such steps
   module _ (words counts : List ℕ) (m : ℕ) where

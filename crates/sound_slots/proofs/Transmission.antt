@@ -50,8 +50,9 @@ use Rattle.rules.proofs.SlotStep.{and-both}
 use Rattle.rules.proofs.LimitLaws.{within-limits, station-in}
 use Rattle.channel_rules.proofs.SoundTests.{sound-tests}
 use Rattle.channel_rules.proofs.SoundMeans.{not-eq, sound-says}
-use Rattle.rules.proofs.Settled.{standsAlone, standsAfter, feedbackAt, settledBy, settledOf, requesting, conditionAfter, stationAfter, wentBy, step-is}
-use Rattle.rules.specs.Stepping.{requestMinislot, stepOf}
+use Rattle.rules.proofs.Settled.{standsAlone, standsAfter, feedbackAt, settledBy, settledOf, requesting, conditionAfter, actedBy, besideBy, stationAfter, wentBy, step-is}
+use Rattle.rules.specs.declared.Acted.{Acted}
+use Rattle.rules.specs.Stepping.{requestMinislot, isFresh, stays, asker, requestTotal, stepOf}
 use Rattle.rules.proofs.Refusals.{through-only, test-passed}
 use Rattle.rules.proofs.Walking.{row-fits}
 
@@ -116,16 +117,47 @@ settled-total c r g b p row (Long f l t) w e = absurd (false≢true e)
 
 -- ---- one station's slot: its index, and a total of one or more with a request
 
-abbrev Sends : SlotAnswer → Condition → Type 0
-Sends (WentSlot turn minislot segment) k = 1 ≤ minislot → 1 ≤ totalOf k
-Sends (RefusedSlot n) k = Unit {0}
+abbrev Sends : SlotAnswer → ℕ → Type 0
+Sends (WentSlot turn minislot segment) total = 1 ≤ minislot → 1 ≤ total
+Sends (RefusedSlot n) total = Unit {0}
 
 pub record Fair (s : Station) (r : StationSlot) : Type 0 where
   pub index : r .station .index ≡ s .index
-  pub sends : Sends (r .answer) (r .station .condition)
+  pub sends : Sends (r .answer) (r .request)
 
 fair-refused : (s : Station) (n : ℕ) → Fair s (refusedSlot s n)
 fair-refused s n = record { index = refl; sends = tt }
+
+-- a record that requests has a total of one or more
+acted-total : (c : Counters) (row : List Feedback) (pick : ℕ) (k : Condition) → conditionWithin c k ≡ true → 1 ≤ actedBy c row pick k .minislot → 1 ≤ totalOf (actedBy c row pick k .condition)
+unfolding actedBy
+acted-total c row pick k w lo = asks (requesting c row k) refl lo
+  where
+    asks : (b : Bool) → requesting c row k ≡ b → 1 ≤ requestMinislot b pick → 1 ≤ totalOf (conditionAfter c row pick k)
+    asks true e lo =
+        rw (total-kept (turnOf (ownerOf c) (placesAfter c row)) (placesAfter c row .resolution) (c .next) pick (settledOf c row k) e)
+        (settled-total c (placesAfter c row .resolution) (c .next) (immediateOf c row) (placesOf c) row k w e)
+    asks false e lo = absurd (omega arith)
+
+beside-total : (c : Counters) (row : List Feedback) (pick : ℕ) (a b : Condition) → conditionWithin c b ≡ true → 1 ≤ besideBy c row pick a b .minislot → 1 ≤ totalOf (besideBy c row pick a b .condition)
+unfolding besideBy
+beside-total c row pick a b w = go (isFresh a && isFresh b)
+  where
+    go : (x : Bool) → 1 ≤ (cond x (stays b) (actedBy c row pick b)) .minislot → 1 ≤ totalOf ((cond x (stays b) (actedBy c row pick b)) .condition)
+    go true lo = absurd (omega arith)
+    go false lo = acted-total c row pick b w lo
+
+-- so the station's request has
+asker-total : (x y : Acted) → (1 ≤ x .minislot → 1 ≤ totalOf (x .condition)) → (1 ≤ y .minislot → 1 ≤ totalOf (y .condition)) → 1 ≤ asker x y .minislot → 1 ≤ requestTotal (asker x y)
+asker-total x y p q = go (eqb (x .minislot) 0)
+  where
+    one : (z : Acted) → (1 ≤ z .minislot → 1 ≤ totalOf (z .condition)) → (b : Bool) → eqb (z .minislot) 0 ≡ b → 1 ≤ z .minislot → 1 ≤ cond b 0 (totalOf (z .condition))
+    one z h true e lo = let w : z .minislot ≡ 0 = eqb-true (z .minislot) 0 e in absurd (omega arith)
+    one z h false e lo = h lo
+
+    go : (b : Bool) → 1 ≤ (cond b y x) .minislot → 1 ≤ requestTotal (cond b y x)
+    go true lo = one y q (eqb (y .minislot) 0) refl lo
+    go false lo = one x p (eqb (x .minislot) 0) refl lo
 
 pub slot-fair : (s : Station) (words counts : List ℕ) (pick : ℕ) → Fair s (slotOf s words counts pick)
 unfolding slotOf slotNumberOf stationAfter
@@ -135,13 +167,14 @@ slot-fair s words counts pick = go (eqb (slotNumberOf s words counts pick) 0) re
     row = feedbacks (readings words counts)
 
     through : stationWithin s ≡ true → Fair s (wentBy s row pick)
-    through w = record { index = refl; sends = λ lo. asks (requesting s row) refl lo }
-      where
-        asks : (b : Bool) → requesting s row ≡ b → 1 ≤ requestMinislot b pick → 1 ≤ totalOf (conditionAfter s row pick)
-        asks true e lo =
-            rw (total-kept (turnOf (ownerOf (s .counters)) (placesAfter (s .counters) row)) (placesAfter (s .counters) row .resolution) (s .counters .next) pick (settledOf (s .counters) row (s .condition)) e)
-            (settled-total (s .counters) (placesAfter (s .counters) row .resolution) (s .counters .next) (immediateOf (s .counters) row) (placesOf (s .counters)) row (s .condition) (station-in s w .condition) e)
-        asks false e lo = absurd (omega arith)
+    through w =
+        record {
+          index = refl;
+          sends =
+              asker-total (actedBy (s .counters) row pick (s .short .condition)) (besideBy (s .counters) row pick (s .short .condition) (s .long .condition))
+              (acted-total (s .counters) row pick (s .short .condition) (station-in s w .records .short))
+              (beside-total (s .counters) row pick (s .short .condition) (s .long .condition) (station-in s w .records .long));
+        }
 
     go : (b : Bool) → eqb (slotNumberOf s words counts pick) 0 ≡ b
         → Fair s (cond b (stepOf (outcomeOf (s .counters) row) s pick) (refusedSlot s (slotNumberOf s words counts pick)))
@@ -161,15 +194,15 @@ module _ (words counts : List ℕ) (j : ℕ) (lo : 1 ≤ j) where
   one : (s : Station) (r : StationSlot) → Fair s r → (requestIn j r (r .answer) ≡ []) ⊎ ((v : ℕ) × (1 ≤ v) × (requestIn j r (r .answer) ≡ requestAs (s .index) v ∷ []))
   one s r f = go (r .answer) (f .sends)
     where
-      go : (a : SlotAnswer) → Sends a (r .station .condition) → (requestIn j r a ≡ []) ⊎ ((v : ℕ) × (1 ≤ v) × (requestIn j r a ≡ requestAs (s .index) v ∷ []))
+      go : (a : SlotAnswer) → Sends a (r .request) → (requestIn j r a ≡ []) ⊎ ((v : ℕ) × (1 ≤ v) × (requestIn j r a ≡ requestAs (s .index) v ∷ []))
       go (WentSlot turn minislot segment) h = at (eqb minislot j) refl
         where
           at : (b : Bool) → eqb minislot j ≡ b
-              → (onlyIf b (requestAs (r .station .index) (totalOf (r .station .condition)) ∷ []) ≡ [])
-              ⊎ ((v : ℕ) × (1 ≤ v) × (onlyIf b (requestAs (r .station .index) (totalOf (r .station .condition)) ∷ []) ≡ requestAs (s .index) v ∷ []))
+              → (onlyIf b (requestAs (r .station .index) (r .request) ∷ []) ≡ [])
+              ⊎ ((v : ℕ) × (1 ≤ v) × (onlyIf b (requestAs (r .station .index) (r .request) ∷ []) ≡ requestAs (s .index) v ∷ []))
           at true e =
               let w : minislot ≡ j = eqb-true minislot j e in
-              inr (totalOf (r .station .condition), h (omega arith), ap (λ (i : ℕ). requestAs i (totalOf (r .station .condition)) ∷ []) (f .index))
+              inr (r .request, h (omega arith), ap (λ (i : ℕ). requestAs i (r .request) ∷ []) (f .index))
           at false e = inl refl
       go (RefusedSlot n) h = inl refl
 

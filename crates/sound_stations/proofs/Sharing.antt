@@ -1,4 +1,4 @@
--- The limits of records that share their counters: those of the counters once, and each record's index and condition under them. And the three
+-- The limits of records that share their counters: those of the counters once, and each station's index and message records under them. And the three
 -- clauses in the order in which the code tests them. Assumes nothing.
 use mathlib.Core.Path.{_≡_, refl, sym, ap, _∙_}
 use mathlib.Core.Bool.{Bool, true, false, _&&_, and-false}
@@ -10,7 +10,7 @@ use Rattle.listlaws.specs.Lists.{each}
 use Rattle.rules.specs.declared.Counters.{Counters}
 use Rattle.rules.specs.declared.Station.{Station}
 use Rattle.rules.specs.Limits.{withinLimits}
-use Rattle.rules.specs.StationLimits.{conditionWithin, stationWithin}
+use Rattle.rules.specs.StationLimits.{messagesWithin, stationWithin}
 use Rattle.rules.specs.StationCalls.{isIndex}
 use Rattle.rules.proofs.SlotStep.{and-both}
 use Rattle.channel_rules.specs.Soundness.{tableCounters, sameCounters, recordsWithin, countersShared, indexesDistinct}
@@ -21,8 +21,8 @@ use Rattle.sound_stations.specs.Stations.{besideWithin, stationsSound}
 beside : (k : Counters) (s : Station) → k ≡ s .counters → withinLimits k ≡ true → stationWithin s ≡ besideWithin k s
 unfolding stationWithin besideWithin
 beside k s e w =
-    ap (λ (c : Counters). withinLimits c && isIndex (s .index) && conditionWithin c (s .condition)) (sym e)
-    ∙ ap (λ (b : Bool). b && isIndex (s .index) && conditionWithin k (s .condition)) w
+    ap (λ (c : Counters). withinLimits c && isIndex (s .index) && messagesWithin c (s .short .condition) (s .long .condition)) (sym e)
+    ∙ ap (λ (b : Bool). b && isIndex (s .index) && messagesWithin k (s .short .condition) (s .long .condition)) w
 
 besides : (k : Counters) (l : List Station) → withinLimits k ≡ true → each (λ (s : Station). sameCounters k (s .counters)) l ≡ true
     → each stationWithin l ≡ each (besideWithin k) l

@@ -5,15 +5,15 @@ use Prim.Native.Nat.{ℕ}
 use Rattle.rules.specs.declared.Counters.{Counters}
 use Rattle.rules.specs.declared.Station.{Station}
 use Rattle.rules.specs.StationCalls.{isIndex}
-use Rattle.rules.specs.StationLimits.{conditionWithin}
+use Rattle.rules.specs.StationLimits.{messagesWithin}
 use Rattle.channel_rules.specs.Soundness.{recordsWithin, countersShared, indexesDistinct}
 
 abbrev pub indexIn : Station → ℕ
 indexIn s = s .index
 
--- index and condition, under counters that are within their limits
+-- index and message records, under counters that are within their limits
 unfoldable pub besideWithin : Counters → Station → Bool
-besideWithin shared s = isIndex (s .index) && conditionWithin shared (s .condition)
+besideWithin shared s = isIndex (s .index) && messagesWithin shared (s .short .condition) (s .long .condition)
 
 unfoldable pub stationsSound : List Station → Bool
 stationsSound stations = recordsWithin stations && countersShared stations && indexesDistinct stations

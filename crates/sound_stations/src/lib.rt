@@ -1,4 +1,4 @@
-// The clauses of a sound table (paper 01, "The channel") on its stations alone, as code: counters shared, every record within its limits,
+// The clauses of a sound table (paper 01, "The channel") on its stations alone, as code: counters shared, every station within its limits,
 // and indexes distinct.
 pub mod indexes;
 mod records;
@@ -12,7 +12,7 @@ ghost use mathlib.Core.Path.{_≡_};
 ghost use lib.ListN.{take};
 ghost use Rattle.sound_stations.specs.Stations.{stationsSound};
 
-// The clauses for the first `count` records, or for all 64 where there are no more. That counters are shared comes first, so that their
+// The clauses for the first `count` stations, or for all 64 where there are no more. That counters are shared comes first, so that their
 // limits are tested once.
 pub fn stations_sound(stations: [Station; 64], count: usize) -> bool
     ensures { λ r. ⌜ r ≡ stationsSound (take count stations) ⌝ }

@@ -1,7 +1,7 @@
-// Every record is within its limits, on a table whose records share their counters: the counters' own limits are tested once, then each
-// record's index and condition.
-use conditions::condition_within;
+// Every station is within its limits, on a table whose stations share their counters: the counters' own limits are tested once, then each
+// station's index and its two message records.
 use conditions::is_index;
+use conditions::messages_within;
 use rules::Counters;
 use rules::Station;
 use sound_counters::table_counters;
@@ -13,19 +13,22 @@ ghost use Rattle.listlaws.specs.Lists.{each};
 ghost use Rattle.channel_rules.specs.Soundness.{recordsWithin, countersShared};
 ghost use Rattle.sound_stations.specs.Stations.{besideWithin};
 
-// A record's index and condition, under these counters.
+// A station's index and its two message records, under these counters.
 fn beside_within(shared: Counters, s: Station) -> bool
     ensures { λ r. ⌜ r ≡ besideWithin shared s ⌝ }
 {
-    let k = s.condition;
+    let a = s.short;
+    let b = s.long;
+    let short = a.condition;
+    let long = b.condition;
     if is_index(s.index) {
-        condition_within(shared, k)
+        messages_within(shared, short, long)
     } else {
         false
     }
 }
 
-// Those of each record.
+// Those of each station.
 fn besides_within(stations: [Station; 64], count: usize, shared: Counters) -> bool
     requires { ⌜ count ≤ 64 ⌝ }
     ensures { λ r. ⌜ r ≡ each (besideWithin shared) (take count stations) ⌝ }

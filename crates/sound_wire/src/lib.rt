@@ -42,8 +42,8 @@ fn same_minislots(a: [Minislot; 8], b: [Minislot; 8]) -> bool
     true
 }
 
-// The clause, row by row, on the first `count` messages, or on all 64 where there are no more.
-pub fn wire_sound(messages: [TableMessage; 64], count: usize, wire: [WireRow; 8]) -> bool
+// The clause, row by row, on the first `count` messages, or on all 128 where there are no more.
+pub fn wire_sound(messages: [TableMessage; 128], count: usize, wire: [WireRow; 8]) -> bool
     ensures { λ r. ⌜ r ≡ wireCarries (take count messages) wire ⌝ }
 {
     let asked = requests(messages, count);

@@ -1,9 +1,8 @@
--- A sound table's eight clauses are those on its stations, those on its messages and that on its owners, in the order in which the code tests them; and
--- messages are as many as stations. Assumes nothing.
+-- A sound table's eight clauses are those on its stations, those on its messages and that on its owners, in the order in which the code tests them.
+-- Assumes nothing.
 use mathlib.Core.Path.{_≡_, refl, ap, _∙_}
 use mathlib.Core.Bool.{Bool, true, false, _&&_}
-use mathlib.Core.List.{List, [], _∷_}
-use lib.ListN.{length}
+use mathlib.Core.List.{List}
 use Rattle.rules.specs.declared.Station.{Station}
 use Rattle.rules.specs.declared.WireRow.{WireRow}
 use Rattle.channel_rules.specs.Soundness.{tableCounters, messagesOf, indexesDistinct, recordsWithin, countersShared, urgentSound, longSound, resolutionSound, askedMinislot, wireSound, entriesOn, ownersSound, soundTable}
@@ -40,9 +39,3 @@ module _ (s : List Station) (wire : List WireRow) where
     pub owners-last : messagesSound (tableCounters s) (messagesOf s) wire ≡ true → soundTable s wire ≡ entriesOn s (tableCounters s .calendar)
     unfolding ownersSound
     owners-last f = with-stations ∙ ap (λ (b : Bool). b && ownersSound s) f
-
--- ---- messages are as many as stations
-
-pub length-messages : (l : List Station) → length (messagesOf l) ≡ length l
-length-messages [] = refl
-length-messages (s ∷ l) = rw (length-messages l)

@@ -1,5 +1,5 @@
-// A sound table (paper 01, "The channel"; paper 02, T-02) as code, on a table and a wire by value: the clauses on stations, those on queues
-// and wire, which go over the table's messages, drawn out once, and that on the calendar's owners.
+// A sound table (paper 01, "The channel"; paper 02, T-02 and T-04) as code, on a table and a wire by value: the clauses on stations, those
+// on queues and wire, which go over the table's messages, two a station, drawn out once, and that on the calendar's owners.
 mod messages;
 
 use drawing::least;
@@ -22,7 +22,7 @@ ghost use Rattle.soundness.specs.Clauses.{messagesSound};
 
 // The clauses on messages, for queues as long as the counters say.
 fn messages_sound(
-    messages: [TableMessage; 64],
+    messages: [TableMessage; 128],
     count: usize,
     counters: Counters,
     wire: [WireRow; 8],
@@ -42,7 +42,7 @@ fn messages_sound(
     wire_sound(messages, count, wire)
 }
 
-// Whether a table of the first `count` records, or of all 64 where there are no more, and a wire are sound.
+// Whether a table of the first `count` stations, or of all 64 where there are no more, and a wire are sound.
 pub fn sound(stations: [Station; 64], count: usize, wire: [WireRow; 8]) -> bool
     ensures { λ r. ⌜ r ≡ soundTable (take count stations) wire ⌝ }
 {
@@ -52,7 +52,7 @@ pub fn sound(stations: [Station; 64], count: usize, wire: [WireRow; 8]) -> bool
     }
     let list = messages(stations, n);
     let counters = table_counters(stations, n);
-    if !messages_sound(list, n, counters, wire) {
+    if !messages_sound(list, 2 * n, counters, wire) {
         return false;
     }
     let entries = counters.calendar;

@@ -9,23 +9,26 @@ ghost use Rattle.listlaws.specs.Lists.{padded};
 ghost use Rattle.channel_rules.specs.Soundness.{messagesOf};
 ghost use Rattle.drawing.specs.Drawn.{noTableMessage};
 
-// Each station's own message, with the station's index.
-pub(crate) fn messages(stations: [Station; 64], count: usize) -> [TableMessage; 64]
+// The two message records of each station, first the short one, with the station's index.
+pub(crate) fn messages(stations: [Station; 64], count: usize) -> [TableMessage; 128]
     requires { ⌜ count ≤ 64 ⌝ }
-    ensures { λ r. ⌜ r ≡ padded 64 noTableMessage (messagesOf (take count stations)) ⌝ }
+    ensures { λ r. ⌜ r ≡ padded 128 noTableMessage (messagesOf (take count stations)) ⌝ }
 {
     let mut list = [TableMessage {
         index: 0,
         condition: Condition::Free,
-    }; 64];
+    }; 128];
     let mut i: usize = 0;
     while i < count {
         let s = stations[i];
-        let condition = s.condition;
-        list[i] = TableMessage {
-            index: s.index,
-            condition,
-        };
+        let index = s.index;
+        let short = s.short;
+        let long = s.long;
+        let at = 2 * i;
+        let condition = short.condition;
+        list[at] = TableMessage { index, condition };
+        let condition = long.condition;
+        list[at + 1] = TableMessage { index, condition };
         i += 1;
     }
     list

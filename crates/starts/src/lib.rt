@@ -2,6 +2,7 @@
 use calls::StartReply;
 use minislot::Minislot;
 use rules::Condition;
+use rules::MessageRecord;
 use rules::StartAnswer;
 use rules::Station;
 use rules::WireRow;
@@ -23,13 +24,19 @@ pub struct Beginning {
     pub reply: StartReply,
 }
 
+// A station at the start: both of its message records are free.
 fn start_station(m: u8, n: u8, index: u16) -> Station
     ensures { λ r. ⌜ r ≡ startStation m n index ⌝ }
 {
     Station {
         counters: counters::start(m, n),
         index,
-        condition: Condition::Free,
+        short: MessageRecord {
+            condition: Condition::Free,
+        },
+        long: MessageRecord {
+            condition: Condition::Free,
+        },
     }
 }
 

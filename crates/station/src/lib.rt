@@ -7,6 +7,7 @@ use conditions::within;
 use counters::in_ranges;
 use rules::CalendarAnswer;
 use rules::Condition;
+use rules::MessageRecord;
 use rules::OfferAnswer;
 use rules::StartAnswer;
 use rules::Station;
@@ -44,7 +45,12 @@ pub fn start(m: u8, n: u8, index: u16) -> StationStarted
                 station: Station {
                     counters: counters::start(m, n),
                     index,
-                    condition: Condition::Free,
+                    short: MessageRecord {
+                        condition: Condition::Free,
+                    },
+                    long: MessageRecord {
+                        condition: Condition::Free,
+                    },
                 },
             };
         }
@@ -64,22 +70,21 @@ fn refused_offer(s: Station, number: u8) -> StationOffered
     }
 }
 
-// Offers a station a message of this many bytes. 18: the record is outside its limits. 9: the station is not free. 10: 0 bytes or more
-// than 12,240. A refusal leaves the record as it was.
+// Offers a station a message of this many bytes. 18: the record is outside its limits. 10: 0 bytes or more than 12,240. 9: the message
+// record that the length picks, up to 48 bytes the short one, is in use. A refusal leaves the record as it was.
 pub fn offer(s: Station, bytes: usize) -> StationOffered
     ensures left { λ r. ⌜ r ≡ offerOf s bytes ⌝ }
     ensures told { λ r. ⌜ offerTold (r .answer) ≡ offerToldOf s bytes ⌝ }
 {
     if within(s) {
-        let k = s.condition;
-        let taken = taking(k, bytes);
+        let taken = taking(s, bytes);
         let total = taken.total;
         if taken.number != 0 {
             return refused_offer(s, taken.number);
         }
         return StationOffered {
             answer: OfferAnswer::Taken(total),
-            station: with_condition(s, Condition::Fresh { total }),
+            station: with_condition(s, bytes, Condition::Fresh { total }),
         };
     }
     refused_offer(s, 18)

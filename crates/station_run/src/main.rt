@@ -3,13 +3,14 @@
 //
 // The cases come from standard input, a line each, on the record that the line before left. A line `start`, `offer`, `slot`, `slot_at` or
 // `calendar` has the call's arguments (a slot's minislots as word and count in turn; a calendar's 24 entries); it is written, then the
-// answer, then a line `record` with the record after the call: m, n, the next group, H, N, eight RQ, eight Open marks, the index and the
-// condition; after a calendar also a line `position` with the position and the owners. An owned turn has the owner behind it. A line
-// `given` makes a record that no call made, of the same numbers (an Open mark is 1 for yes), the condition in a group of its own; a line
-// `position` gives the record a position and the entries of a calendar, and a line `show` writes them. `keep` keeps the record, and
-// `again` comes back to the one that was kept. A line `recording` has the minislots that `slot_at` takes its row from, word and count in
-// turn. A line `listener` starts a listener; `beside` is a `slot_at` that this listener hears too, and `calendar_beside` a calendar that
-// it is given too: after what is written of the station come the listener's answer and its counters, and its position and owners.
+// answer, then a line `record` with the record after the call: m, n, the next group, H, N, eight RQ, eight Open marks, the index, the
+// short message's condition and the long one's, each a word and three numbers; after a calendar also a line `position` with the position
+// and the owners. An owned turn has the owner behind it. A line `given` makes a record that no call made, of the same numbers (an Open
+// mark is 1 for yes), each condition in a group of its own; a line `position` gives the record a position and the entries of a calendar,
+// and a line `show` writes them. `keep` keeps the record, and `again` comes back to the one that was kept. A line `recording` has the
+// minislots that `slot_at` takes its row from, word and count in turn. A line `listener` starts a listener; `beside` is a `slot_at` that
+// this listener hears too, and `calendar_beside` a calendar that it is given too: after what is written of the station come the
+// listener's answer and its counters, and its position and owners.
 use libc::STDIN_FILENO;
 use rules::Counters;
 use rules::ListenAnswer;
@@ -26,7 +27,6 @@ use runs_cases::number8;
 use runs_cases::number16;
 use runs_cases::which;
 use runs_cases::words;
-use runs_records::condition_of;
 use runs_records::counters_at;
 use runs_records::counters_numbers;
 use runs_records::counters_of;
@@ -36,6 +36,7 @@ use runs_records::record_line;
 use runs_records::refused_line;
 use runs_records::set_line;
 use runs_records::start_line;
+use runs_records::station_of;
 use runs_records::taken_line;
 use runs_records::went_line;
 use runs_text::form;
@@ -198,11 +199,7 @@ fn heard(c: Counters, recording: Group, kind: u64, head: Group) -> Counters {
 
 // The record of a line `given`.
 fn given(line: &[u8], head: Group) -> Station {
-    Station {
-        counters: counters_of(head),
-        index: number16(head, 22),
-        condition: condition_of(line, head.next),
-    }
+    station_of(counters_of(head), number16(head, 22), line, head.next)
 }
 
 // The record with the position and the calendar of a line `position`.

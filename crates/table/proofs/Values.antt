@@ -26,7 +26,7 @@ loaded = of-struct L.the-type L′.the-laws L′.the-plain L′.the-copy
 
 -- the size of a record in memory, by which the code multiplies an index
 abbrev pub size : ℕ
-size = 90
+size = 96
 
 size-is : mem (station .R) .size ≡ size
 size-is = refl

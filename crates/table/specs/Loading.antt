@@ -25,7 +25,8 @@ absent = record {
         position = 0;
       };
   index = 0;
-  condition = Free;
+  short = record { condition = Free };
+  long = record { condition = Free };
 }
 
 -- how many records are copied

@@ -15,7 +15,7 @@ use Rattle.asked_rows.proofs.requests.Statement.{statement}
 use Rattle.asked_rows.proofs.requests.Tie as tie
 
 abbrev Inv-loop : tie.InvT-loop
-Inv-loop count messages end list₀ n₀ i₀ list n i = (i ≤ end) × (end ≤ 64) × Filled requestDrawn noRequest messages i n list
+Inv-loop count messages end list₀ n₀ i₀ list n i = (i ≤ end) × (end ≤ 128) × Filled 128 requestDrawn noRequest messages i n list
 
 abbrev μ-loop : tie.MeasureT-loop
 μ-loop count messages end list₀ n₀ i₀ list n i = end - i
@@ -54,7 +54,7 @@ loop-again : tie.Need-loop-again Inv-loop μ-loop
 loop-again c =
     let l = c .before .before .before .before .loop in
     let a = c .before .before .before .before .before .before .args in
-    let w : length (a .t1) ≡ 64 = search needs in
+    let w : length (a .t1) ≡ 128 = search needs in
     let h = c .before .asking .result in
     let e = sym (ap (λ (r : FoundRequest). onlyIf (r .found) (r .request ∷ [])) (c .before .asking .ensures)) in
     ⊎-elim
@@ -67,7 +67,7 @@ returns c =
     let l = c .before .loop in
     let k = c .before .before .least in
     let a = c .before .before .before .args in
-    let w : length (a .t1) ≡ 64 = search needs in
+    let w : length (a .t1) ≡ 128 = search needs in
     let e : l .i ≡ k .result = omega arith in
     rw (← (all-taken (a .t1) w (a .count) (k .result) (k .ensures)), ← e) (cc (l .inv .2 .array, l .inv .2 .count))
 

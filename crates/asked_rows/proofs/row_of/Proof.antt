@@ -15,7 +15,7 @@ use Rattle.asked_rows.proofs.row_of.Statement.{statement}
 use Rattle.asked_rows.proofs.row_of.Tie as tie
 
 abbrev Inv-loop : tie.InvT-loop
-Inv-loop count group list end row₀ i₀ row i = (i ≤ end) × (end ≤ 64) × (row ≡ carriedRow group (take i list))
+Inv-loop count group list end row₀ i₀ row i = (i ≤ end) × (end ≤ 128) × (row ≡ carriedRow group (take i list))
 
 abbrev μ-loop : tie.MeasureT-loop
 μ-loop count group list end row₀ i₀ row i = end - i
@@ -48,7 +48,7 @@ loop-again : tie.Need-loop-again Inv-loop μ-loop
 loop-again c =
     let l = c .before .before .before .before .loop in
     let a = c .before .before .before .before .before .before .args in
-    let w : length (a .t1) ≡ 64 = search needs in
+    let w : length (a .t1) ≡ 128 = search needs in
     let s = getD (a .t1) (l .i) noRequest in
     ⊎-elim
     (λ t. (
@@ -68,7 +68,7 @@ returns c =
     let l = c .before .loop in
     let k = c .before .before .least in
     let a = c .before .before .before .args in
-    let w : length (a .t1) ≡ 64 = search needs in
+    let w : length (a .t1) ≡ 128 = search needs in
     let e : l .i ≡ k .result = omega arith in
     rw (← (all-taken (a .t1) w (a .count) (k .result) (k .ensures)), ← e) (l .inv .2)
 

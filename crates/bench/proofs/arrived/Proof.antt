@@ -23,8 +23,8 @@ index-of-requires c κs = search needs
 size-requires : tie.Need-size-requires Inv-loop μ-loop
 size-requires c κs = search needs
 
-offered-requires : tie.Need-offered-requires Inv-loop μ-loop
-offered-requires c κs = search needs
+offered-both-requires : tie.Need-offered-both-requires Inv-loop μ-loop
+offered-both-requires c κs = search needs
 
 add-k : tie.Need-add-k Inv-loop μ-loop
 add-k c = search needs
@@ -48,7 +48,7 @@ arrived-spec =
     draw-requires
     index-of-requires
     size-requires
-    offered-requires
+    offered-both-requires
     add-k
     loop-less
     loop-again

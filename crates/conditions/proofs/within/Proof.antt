@@ -1,4 +1,4 @@
--- `within` tests the counters, the index and the condition. Assumes nothing.
+-- `within` tests the counters, the index and the two records. Assumes nothing.
 use mathlib.Core.Path.{_∙_, sym}
 use Rattle.rules.specs.StationLimits.{stationWithin}
 use borrow.Author.Needs.{needs}
@@ -11,14 +11,14 @@ within-requires c κs = search needs
 is-index-requires : tie.Need-is-index-requires
 is-index-requires c κs = search needs
 
-condition-within-requires : tie.Need-condition-within-requires
-condition-within-requires c κs = search needs
+messages-within-requires : tie.Need-messages-within-requires
+messages-within-requires c κs = search needs
 
 returns : tie.Need-returns
 unfolding stationWithin
 returns c =
     rw (sym (c .before .before .before .before .within .ensures) ∙ c .before .before .before .if1 .taken, sym (c .before .before .is-index .ensures) ∙ c .before .if2 .taken)
-    (c .condition-within .ensures)
+    (c .messages-within .ensures)
 
 returns-2 : tie.Need-returns-2
 unfolding stationWithin
@@ -34,7 +34,7 @@ within-spec =
     (tie.spec
     within-requires
     is-index-requires
-    condition-within-requires
+    messages-within-requires
     returns
     returns-2
     returns-3)

@@ -1,6 +1,5 @@
--- `put_message` puts the line of the station's condition. Assumes nothing.
+-- `put_message` puts the line of the message's condition. Assumes nothing.
 use borrow.Author.Needs.{needs}
-use Rattle.message_lines.specs.MessageLines.{messageLine}
 use Rattle.message_lines.proofs.put_message.Statement.{statement}
 use Rattle.message_lines.proofs.put_message.Tie as tie
 
@@ -44,42 +43,36 @@ same-length : tie.Need-same-length
 same-length c = search needs
 
 returns : tie.Need-returns
-unfolding messageLine
 returns c = rw (c .before .before .before .before .enum-told .given .1) (c .before .before .put-free .ensures)
 
 same-length-2 : tie.Need-same-length-2
 same-length-2 c = search needs
 
 returns-2 : tie.Need-returns-2
-unfolding messageLine
 returns-2 c = rw (c .before .before .before .before .before .condition .given .1) (c .before .before .put-fresh .ensures)
 
 same-length-3 : tie.Need-same-length-3
 same-length-3 c = search needs
 
 returns-3 : tie.Need-returns-3
-unfolding messageLine
 returns-3 c = rw (c .before .before .before .before .before .condition2 .given .1) (c .before .before .put-asked .ensures)
 
 same-length-4 : tie.Need-same-length-4
 same-length-4 c = search needs
 
 returns-4 : tie.Need-returns-4
-unfolding messageLine
 returns-4 c = rw (c .before .before .before .before .before .condition3 .given .1) (c .before .before .put-resolving .ensures)
 
 same-length-5 : tie.Need-same-length-5
 same-length-5 c = search needs
 
 returns-5 : tie.Need-returns-5
-unfolding messageLine
 returns-5 c = rw (c .before .before .before .before .before .condition4 .given .1) (c .before .before .put-urgent .ensures)
 
 same-length-6 : tie.Need-same-length-6
 same-length-6 c = search needs
 
 returns-6 : tie.Need-returns-6
-unfolding messageLine
 returns-6 c = rw (c .before .before .before .before .before .condition5 .given .1) (c .before .before .put-long .ensures)
 
 pub put-message-spec : {M : Type 1} → statement M

@@ -1,12 +1,12 @@
 -- `hears_itself` tests one minislot after the other: each before j passed, and one that fails fails the row. Assumes nothing.
-use mathlib.Core.Path.{_≡_, sym, _∙_}
+use mathlib.Core.Path.{_≡_, sym, ap, _∙_}
 use mathlib.Core.Bool.{true}
 use Prim.Native.Nat.{ℕ, _+_, _-_, _≤_, _<_}
 use native.Mathlib.Omega.{arith}
 use lib.ListN.{length, getD}
 use borrow.Author.Needs.{needs}
 use borrow.Author.Count.{below-more}
-use Rattle.rules.specs.OwnHearing.{hearsAt}
+use Rattle.rules.specs.OwnHearing.{ownMinislot, ownTotal, hearsAt}
 use Rattle.queueing.proofs.Rows.{blank}
 use Rattle.own_hearing.proofs.Rows.{misses, hears}
 use Rattle.own_hearing.proofs.hears_itself.Statement.{statement}
@@ -17,6 +17,9 @@ Inv-loop s words row own total end j₀ j = (j ≤ end) × ((i : ℕ) → i < j 
 
 abbrev μ-loop : tie.MeasureT-loop
 μ-loop s words row own total end j₀ j = end - j
+
+listened-requires : tie.Need-listened-requires Inv-loop μ-loop
+listened-requires c κs = search needs
 
 own-minislot-requires : tie.Need-own-minislot-requires Inv-loop μ-loop
 own-minislot-requires c κs = search needs
@@ -62,19 +65,21 @@ loop-again c = (omega arith, below-more _ _ (c .before .before .before .before .
 
 returns : tie.Need-returns Inv-loop μ-loop
 returns c =
-    let a = c .before .before .before .before .before .before .before .before .before .before .args in
+    let a = c .before .before .before .before .before .before .before .before .before .before .before .args in
     let full : length (a .t3) ≡ 8 = search needs in
+    let heeds = c .before .before .before .before .before .before .before .before .before .listened .ensures in
     let own = c .before .before .before .before .before .before .before .before .own-minislot in
     let total = c .before .before .before .before .before .before .before .own-total in
-    misses (a .s) (a .words .now) (a .t3) (own .result) (total .result) (own .ensures) (total .ensures) (c .before .before .before .before .before .loop .j) (omega (arith, c .before .before .before .before .before .before .heard .ensures)) (sym (c .before .hears-at .ensures) ∙ c .if1 .left)
+    misses (a .s) (a .words .now) (a .t3) (own .result) (total .result) (own .ensures ∙ ap (ownMinislot (a .s .counters .next)) heeds) (total .ensures ∙ ap ownTotal heeds) (c .before .before .before .before .before .loop .j) (omega (arith, c .before .before .before .before .before .before .heard .ensures)) (sym (c .before .hears-at .ensures) ∙ c .if1 .left)
 
 returns-2 : tie.Need-returns-2 Inv-loop μ-loop
 returns-2 c =
-    let a = c .before .before .before .before .before .before .args in
+    let a = c .before .before .before .before .before .before .before .args in
     let full : length (a .t3) ≡ 8 = search needs in
+    let heeds = c .before .before .before .before .before .listened .ensures in
     let own = c .before .before .before .before .own-minislot in
     let total = c .before .before .before .own-total in
-    hears (a .s) (a .words .now) (a .t3) (own .result) (total .result) (own .ensures) (total .ensures) (λ i h. c .before .loop .inv .1 i (omega (arith, c .before .before .heard .ensures)))
+    hears (a .s) (a .words .now) (a .t3) (own .result) (total .result) (own .ensures ∙ ap (ownMinislot (a .s .counters .next)) heeds) (total .ensures ∙ ap ownTotal heeds) (λ i h. c .before .loop .inv .1 i (omega (arith, c .before .before .heard .ensures)))
 
 pub hears-itself-spec : {M : Type 1} → statement M
 hears-itself-spec =
@@ -82,6 +87,7 @@ hears-itself-spec =
     (tie.spec
     Inv-loop
     μ-loop
+    listened-requires
     own-minislot-requires
     own-total-requires
     heard-requires

@@ -227,7 +227,7 @@ module _ {M : Type 1} (𝓤 : URA M) (H : Heap 𝓤) (A : Atoms 𝓤) (W : Given
         assigns ! (bin ! (load ! (from ! (fld ! refl (stop !))) (look-in ! 34 (sub ! 0 refl (whole !)))) (load ! (from ! (stop !)) (look ! 12 refl)) tt) (from ! (stop !)) (init ! 2 refl (tt, tt)) $
         rewrite ! 2 (λ (p : ℕ). ‵ (fat fullShare tyPtr l₁₇ 0 (vptr b p))) (sym (place-is size o (i .0))) refl $
         elem-out ! R (Is R) (shows 𝓤 H A R) (vals station) (station .tells) fullShare (cur (i .0)) (i .0) absent b o within (λ _.
-        assigns ! (of-opd ! (load ! (from ! (fld ! refl (stop !))) (look-in ! 22 (sub ! 1 refl (whole !))))) (from ! (hop ! (look ! 4 refl) (stop !))) (store-raw ! 0 refl (station .typed 𝓤 H A W (r .station) _ (slot-station r gr))) $
+        assigns ! (of-opd ! (load ! (from ! (fld ! refl (stop !))) (look-in ! 22 (sub ! 2 refl (whole !))))) (from ! (hop ! (look ! 4 refl) (stop !))) (store-raw ! 0 refl (station .typed 𝓤 H A W (r .station) _ (slot-station r gr))) $
         move ! (1 ∷ []) $ drop ! $ owned-of ! station (r .station) _ (slot-station r gr) $ move ! (1 ∷ 0 ∷ []) $ elem-put ! R fullShare (cur (i .0)) (i .0) (r .station) (vals station (r .station)) b o within $
         rewrite ! 0 (λ (l : List Station). ‵ (row R fullShare l b o)) (steppedTo-more d ys ps (i .0) inside inside′) refl $
         -- sent = gather(_8, sent)

@@ -9,7 +9,7 @@ use Rattle.runs_records.proofs.queue_numbers.Statement.{statement}
 use Rattle.runs_records.proofs.queue_numbers.Tie as tie
 
 abbrev Inv-loop : tie.InvT-loop
-Inv-loop resolution opened all₀ g₀ all g = (length all ≡ 26) × (g ≤ 8)
+Inv-loop resolution opened all₀ g₀ all g = (length all ≡ 30) × (g ≤ 8)
 
 abbrev μ-loop : tie.MeasureT-loop
 μ-loop resolution opened all₀ g₀ all g = 8 - g

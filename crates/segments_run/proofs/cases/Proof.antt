@@ -8,7 +8,7 @@ use Rattle.segments_run.proofs.cases.Statement.{statement}
 use Rattle.segments_run.proofs.cases.Tie as tie
 
 abbrev Inv-loop : tie.InvT-loop
-Inv-loop bytes space at₀ at = (at ≤ length bytes + 1) × (length space ≡ 12241)
+Inv-loop bytes space at₀ at = (at ≤ length bytes + 1) × (length space ≡ 12341)
 
 abbrev μ-loop : tie.MeasureT-loop
 μ-loop bytes space at₀ at = length bytes + 1 - at

@@ -22,7 +22,7 @@ returns c = rw (c .before .before .before .before .answer .given .1, c .place-re
 
 returns-2 : tie.Need-returns-2
 unfolding gathered
-returns-2 c = search needs
+returns-2 c = rw (c .enum-told .given .1)
 
 pub gather-spec : {M : Type 1} → statement M
 gather-spec =

@@ -8,9 +8,6 @@ use Rattle.sending.proofs.place_request.Tie as tie
 returns : tie.Need-returns
 returns c = let e : c .before .args .minislot ≡ 0 = omega arith in rw e
 
-total-of-requires : tie.Need-total-of-requires
-total-of-requires c κs = search needs
-
 carry-requires : tie.Need-carry-requires
 carry-requires c κs = search needs
 
@@ -18,8 +15,8 @@ place-requires : tie.Need-place-requires
 place-requires c κs = search needs
 
 returns-2 : tie.Need-returns-2
-returns-2 c = c .place .ensures ∙ rw (c .before .carry .ensures, c .before .before .total-of .ensures)
+returns-2 c = c .place .ensures ∙ rw (c .before .carry .ensures)
 
 pub place-request-spec : {M : Type 1} → statement M
 place-request-spec =
-    tie.close (tie.spec returns total-of-requires carry-requires place-requires returns-2)
+    tie.close (tie.spec returns carry-requires place-requires returns-2)

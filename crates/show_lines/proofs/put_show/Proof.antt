@@ -1,10 +1,10 @@
 -- `put_show` puts one run of lines after another, which is the run of all. Assumes nothing.
-use mathlib.Core.List.{map}
 use borrow.Author.Needs.{needs}
 use lib.ListN.{take}
+use Rattle.listlaws.specs.Lists.{gatherOf}
 use Rattle.programs.proofs.LineRuns.{one-line, these-lines, then-lines}
 use Rattle.counter_lines.specs.CounterLines.{groupLine}
-use Rattle.message_lines.specs.MessageLines.{messageLine}
+use Rattle.message_lines.specs.MessageLines.{messageLines}
 use Rattle.wire_lines.specs.WireLines.{wireLine, groupsLines}
 use Rattle.show_lines.specs.ShowLines.{showLines}
 use Rattle.show_lines.proofs.put_show.Statement.{statement}
@@ -38,7 +38,7 @@ returns c =
     let a = atCounters .before .before .before .args in
     let owners = one-line (atOwners .put-owners .ensures) in
     let groups = these-lines (groupsLines (a .c .groups) (groupLine (a .call) (a .c))) (atGroups .put-groups .ensures) in
-    let messages = these-lines (map (messageLine (a .call)) (take (a .count) (a .stations))) (atMessages .put-messages .ensures) in
+    let messages = these-lines (gatherOf (messageLines (a .call)) (take (a .count) (a .stations))) (atMessages .put-messages .ensures) in
     let wire = these-lines (groupsLines (a .c .groups) (wireLine (a .call) (a .c .minislots) (a .wire))) (c .before .before .put-wire .ensures) in
     let all = then-lines (then-lines (then-lines (then-lines (one-line (atCounters .put-counters .ensures)) owners) groups) messages) wire in
     (all .buffer, all .reached)

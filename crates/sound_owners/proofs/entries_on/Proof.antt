@@ -44,7 +44,7 @@ returns c =
     let w : length (a .entries) ≡ 24 = search needs in
     let n : k .result ≡ length (map indexIn l) = sym (length-map l indexIn ∙ length-take-le (k .result) (a .stations) (omega (arith, k .ensures))) in
     c .entries-among .ensures
-    ∙ ap (λ (x : List ℕ). each (entryAmong x) (a .entries)) (used 0 (r .result) (k .result) (map indexIn l) (r .ensures) n)
+    ∙ ap (λ (x : List ℕ). each (entryAmong x) (a .entries)) (used 64 0 (r .result) (k .result) (map indexIn l) (r .ensures) n)
     ∙ entries-are l (a .entries) w
     ∙ ap (λ (x : List Station). entriesOn x (a .entries)) (all-taken (a .stations) full (a .count) (k .result) (k .ensures))
 

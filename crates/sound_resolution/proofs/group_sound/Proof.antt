@@ -19,13 +19,13 @@ places-in-requires c κs = search needs
 array-share-prefix-list : tie.Need-array-share-prefix-list
 array-share-prefix-list c =
     let r = c .before .places-in in
-    let v : length (r .result .list) ≡ 64 = search needs in
+    let v : length (r .result .list) ≡ 128 = search needs in
     omega (arith, places-in-array (r .result) (gatherOf (placeIn (c .before .before .args .group)) (take (c .before .before .args .count) (c .before .before .args .found))) (r .ensures) v)
 
 slice-aggregate-crowded : tie.Need-slice-aggregate-crowded
 slice-aggregate-crowded c =
     let r = c .before .before .places-in in
-    let v : length (r .result .list) ≡ 64 = search needs in
+    let v : length (r .result .list) ≡ 128 = search needs in
     sym (length-take-le (r .result .count) (r .result .list) (omega (arith, places-in-array (r .result) (gatherOf (placeIn (c .before .before .before .args .group)) (take (c .before .before .before .args .count) (c .before .before .before .args .found))) (r .ensures) v)))
 
 crowded-requires : tie.Need-crowded-requires

@@ -14,7 +14,7 @@ use Rattle.sound_resolution.proofs.places_in.Statement.{statement}
 use Rattle.sound_resolution.proofs.places_in.Tie as tie
 
 abbrev Inv-loop : tie.InvT-loop
-Inv-loop count group found list₀ n₀ i₀ list n i = (i ≤ count) × Filled (placeIn group) 0 found i n list
+Inv-loop count group found list₀ n₀ i₀ list n i = (i ≤ count) × Filled 128 (placeIn group) 0 found i n list
 
 abbrev μ-loop : tie.MeasureT-loop
 μ-loop count group found list₀ n₀ i₀ list n i = count - i
@@ -47,7 +47,7 @@ loop-again : tie.Need-loop-again Inv-loop μ-loop
 loop-again c =
     let l = c .before .before .before .before .loop in
     let a = c .before .before .before .before .before .args in
-    let w : length (a .t1) ≡ 64 = search needs in
+    let w : length (a .t1) ≡ 128 = search needs in
     let s = getD (a .t1) (l .i) noGroupPlace in
     ⊎-elim
     (λ t. (omega arith, rw (t .1, t .2) (filled-one (placeIn (a .group)) 0 (a .t1) (l .i) (l .n) (l .list) noGroupPlace (l .inv .1) (omega arith) (eqb (s .group) (a .group)) (s .place) refl (eq-eqb _ _ (t .0 .taken)) (omega arith))))

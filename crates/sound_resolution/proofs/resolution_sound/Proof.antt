@@ -38,10 +38,10 @@ at found i q = crowded (gatherOf (placeIn (suc i)) found) q
 queues-drawn : (m : List TableMessage) (r : DrawnGroupPlaces) → r ≡ drawnGroupPlaces (groupPlacesOf m) → (queues : List ℕ) → everyFrom (at (take (r .count) (r .list))) 0 queues ≡ queuesSound m queues
 queues-drawn m r e queues =
     every-same (at (take (r .count) (r .list))) (λ (i q : ℕ). crowded (resolvingPlaces (suc i) m) q) 0 queues
-    (λ i q h. ap (λ (p : List ℕ). crowded p q) (ap (gatherOf (placeIn (suc i))) (used noGroupPlace (r .list) (r .count) (groupPlacesOf m) (ap (λ (x : DrawnGroupPlaces). x .list) e) (ap (λ (x : DrawnGroupPlaces). x .count) e)) ∙ group-places (suc i) m))
+    (λ i q h. ap (λ (p : List ℕ). crowded p q) (ap (gatherOf (placeIn (suc i))) (used 128 noGroupPlace (r .list) (r .count) (groupPlacesOf m) (ap (λ (x : DrawnGroupPlaces). x .list) e) (ap (λ (x : DrawnGroupPlaces). x .count) e)) ∙ group-places (suc i) m))
 
 abbrev Inv-loop : tie.InvT-loop
-Inv-loop count queues n list g₀ g = (g ≤ 8) × (n ≤ 64) × ((k : ℕ) → k < g → at (take n list) k (getD queues k 0) ≡ true)
+Inv-loop count queues n list g₀ g = (g ≤ 8) × (n ≤ 128) × ((k : ℕ) → k < g → at (take n list) k (getD queues k 0) ≡ true)
 
 abbrev μ-loop : tie.MeasureT-loop
 μ-loop count queues n list g₀ g = 8 - g
@@ -56,7 +56,7 @@ loop-holds : tie.Need-loop-holds Inv-loop μ-loop
 loop-holds c =
     let a = c .before .before .before .args in
     let k = c .before .before .least in
-    let v : length (a .messages) ≡ 64 = search needs in
+    let v : length (a .messages) ≡ 128 = search needs in
     let n = ap (λ (x : DrawnGroupPlaces). x .count) (c .before .resolving-places .ensures) in
     (omega arith, omega (arith, n, k .ensures, gather-few resolves place (a .messages) (k .result) (omega (arith, k .ensures))), λ k h. absurd (omega arith))
 
@@ -82,7 +82,7 @@ returns c =
     let k = c .before .before .before .before .before .before .least in
     let r = c .before .before .before .before .before .resolving-places in
     let v : length (a .t3) ≡ 8 = search needs in
-    let w : length (a .messages) ≡ 64 = search needs in
+    let w : length (a .messages) ≡ 128 = search needs in
     let s = at (take (r .result .count) (r .result .list)) in
     let e : c .before .group-sound .result ≡ s (l .g) (getD (a .t3) (l .g) 0) = rw add-one at (c .before .group-sound .ensures) in
     sym (every-fails s 0 (a .t3) (l .g) (omega arith) (sym e ∙ not-true _ (c .if1 .taken)))
@@ -109,7 +109,7 @@ returns-2 c =
     let k = c .before .before .before .before .least in
     let r = c .before .before .before .resolving-places in
     let v : length (a .t3) ≡ 8 = search needs in
-    let w : length (a .messages) ≡ 64 = search needs in
+    let w : length (a .messages) ≡ 128 = search needs in
     sym (every-holds (at (take (r .result .count) (r .result .list))) 0 (a .t3) (λ k h. l .inv .2 k (omega arith)))
     ∙ queues-drawn (take (k .result) (a .messages)) (r .result) (r .ensures) (a .t3)
     ∙ ap (λ (l : List TableMessage). queuesSound l (a .t3)) (all-taken (a .messages) w (a .count) (k .result) (k .ensures))

@@ -15,7 +15,7 @@ use Rattle.sound_resolution.proofs.resolving_places.Statement.{statemen
 use Rattle.sound_resolution.proofs.resolving_places.Tie as tie
 
 abbrev Inv-loop : tie.InvT-loop
-Inv-loop count messages list₀ n₀ i₀ list n i = (i ≤ count) × Filled groupPlaceIn noGroupPlace messages i n list
+Inv-loop count messages list₀ n₀ i₀ list n i = (i ≤ count) × Filled 128 groupPlaceIn noGroupPlace messages i n list
 
 abbrev μ-loop : tie.MeasureT-loop
 μ-loop count messages list₀ n₀ i₀ list n i = count - i
@@ -51,7 +51,7 @@ loop-again : tie.Need-loop-again Inv-loop μ-loop
 loop-again c =
     let l = c .before .before .before .before .loop in
     let a = c .before .before .before .before .before .args in
-    let w : length (a .t1) ≡ 64 = search needs in
+    let w : length (a .t1) ≡ 128 = search needs in
     let h = c .before .resolving-place .result in
     let e = sym (ap (λ (r : FoundGroupPlace). onlyIf (r .found) (r .at ∷ [])) (c .before .resolving-place .ensures)) in
     ⊎-elim

@@ -40,7 +40,7 @@ unfolding wireCarries
 wire-drawn m r e wire h =
     rw (eq-eqb (length wire) 8 h)
     (every-same (at (take (r .count) (r .list))) (λ (i : ℕ) (row : WireRow). rowCarries m (suc i) row) 0 wire
-    (λ i row q. ap (λ (l : List WireRequest). at l i row) (used noRequest (r .list) (r .count) (requestsOf m) (ap (λ (x : DrawnRequests). x .list) e) (ap (λ (x : DrawnRequests). x .count) e)) ∙ row-carries m (suc i) row))
+    (λ i row q. ap (λ (l : List WireRequest). at l i row) (used 128 noRequest (r .list) (r .count) (requestsOf m) (ap (λ (x : DrawnRequests). x .list) e) (ap (λ (x : DrawnRequests). x .count) e)) ∙ row-carries m (suc i) row))
 
 -- one row compared
 compared : (requests : List WireRequest) (i : ℕ) (row : WireRow) (b : List Minislot) (x : Bool) → b ≡ carriedRow (i + 1) requests

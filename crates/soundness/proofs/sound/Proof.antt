@@ -1,7 +1,7 @@
 -- `sound` tests the clauses on stations, then those on the messages drawn out of them, then that on owners. Assumes nothing.
 use mathlib.Core.Path.{_≡_, sym, ap, _∙_}
 use mathlib.Core.List.{List}
-use Prim.Native.Nat.{ℕ, _≤_}
+use Prim.Native.Nat.{ℕ, _*_, _≤_}
 use native.Mathlib.Omega.{arith}
 use borrow.Author.Needs.{needs}
 use borrow.Author.Tests.{not-true, not-false}
@@ -16,17 +16,18 @@ use Rattle.listlaws.specs.Lists.{padded}
 use Rattle.drawing.specs.Drawn.{noTableMessage}
 use Rattle.soundness.specs.Clauses.{messagesSound}
 use Rattle.drawing.proofs.Filling.{all-taken, used as drawn}
-use Rattle.soundness.proofs.Parts.{stations-fail, messages-fail, owners-last, length-messages}
+use Rattle.soundness.proofs.Pairs.{length-messages}
+use Rattle.soundness.proofs.Parts.{stations-fail, messages-fail, owners-last}
 use Rattle.soundness.proofs.sound.Statement.{statement}
 use Rattle.soundness.proofs.sound.Tie as tie
 
 -- the test made of what was drawn out of the first n is that on their messages
 drawn-are : (l : List Station) (wire : List WireRow) (n : ℕ) (list : List TableMessage) (k : Counters)
-    → n ≤ length l → list ≡ padded 64 noTableMessage (messagesOf (take n l)) → k ≡ tableCounters (take n l)
-    → messagesSound k (take n list) wire ≡ messagesSound (tableCounters (take n l)) (messagesOf (take n l)) wire
+    → n ≤ length l → list ≡ padded 128 noTableMessage (messagesOf (take n l)) → k ≡ tableCounters (take n l)
+    → messagesSound k (take (2 * n) list) wire ≡ messagesSound (tableCounters (take n l)) (messagesOf (take n l)) wire
 drawn-are l wire n list k h e q =
-    let m : n ≡ length (messagesOf (take n l)) = sym (length-messages (take n l) ∙ length-take-le n l h) in
-    ap (λ (x : List TableMessage). messagesSound k x wire) (drawn noTableMessage list n (messagesOf (take n l)) e m)
+    let m : 2 * n ≡ length (messagesOf (take n l)) = omega (arith, length-messages (take n l), length-take-le n l h) in
+    ap (λ (x : List TableMessage). messagesSound k x wire) (drawn 128 noTableMessage list (2 * n) (messagesOf (take n l)) e m)
     ∙ ap (λ (x : Counters). messagesSound x (messagesOf (take n l)) wire) q
 
 least-requires : tie.Need-least-requires
@@ -49,6 +50,9 @@ messages-requires c κs = omega (arith, c .before .before .least .ensures)
 
 table-counters-requires : tie.Need-table-counters-requires
 table-counters-requires c κs = search needs
+
+mul-messages-sound : tie.Need-mul-messages-sound
+mul-messages-sound c = omega (arith, c .before .before .before .before .least .ensures)
 
 messages-sound-requires : tie.Need-messages-sound-requires
 messages-sound-requires c κs = search needs
@@ -89,6 +93,7 @@ sound-spec =
     returns
     messages-requires
     table-counters-requires
+    mul-messages-sound
     messages-sound-requires
     returns-2
     entries-on-requires

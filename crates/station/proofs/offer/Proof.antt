@@ -1,4 +1,4 @@
--- `offer` gives 18, 9 or 10, or the message's slots and the station that holds it. Assumes nothing.
+-- `offer` gives 18, 10 or 9, or the message's slots and the station that holds it. Assumes nothing.
 use mathlib.Core.Path.{_∙_, sym}
 use native.Mathlib.Omega.{arith}
 use Rattle.station.proofs.Told.{offer-both}

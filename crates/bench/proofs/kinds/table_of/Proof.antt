@@ -14,20 +14,17 @@ abbrev μ-loop : tie.MeasureT-loop
 counters-of-requires : tie.Need-counters-of-requires Inv-loop μ-loop
 counters-of-requires c κs = search needs
 
-condition-of-requires : tie.Need-condition-of-requires Inv-loop μ-loop
-condition-of-requires c κs = search needs
+station-of-requires : tie.Need-station-of-requires Inv-loop μ-loop
+station-of-requires c κs = search needs
 
 loop-holds : tie.Need-loop-holds Inv-loop μ-loop
 loop-holds c = search needs
 
-cast-i : tie.Need-cast-i Inv-loop μ-loop
-cast-i c = search needs
+cast-station-of : tie.Need-cast-station-of Inv-loop μ-loop
+cast-station-of c = search needs
 
-mul-t11 : tie.Need-mul-t11 Inv-loop μ-loop
-mul-t11 c = search needs
-
-condition-of-requires-2 : tie.Need-condition-of-requires-2 Inv-loop μ-loop
-condition-of-requires-2 c κs = search needs
+station-of-requires-2 : tie.Need-station-of-requires-2 Inv-loop μ-loop
+station-of-requires-2 c κs = search needs
 
 mul-stations : tie.Need-mul-stations Inv-loop μ-loop
 mul-stations c = search needs
@@ -44,9 +41,6 @@ loop-less c = search needs
 loop-again : tie.Need-loop-again Inv-loop μ-loop
 loop-again c = search needs
 
-words-requires : tie.Need-words-requires Inv-loop μ-loop
-words-requires c κs = search needs
-
 wire-of-requires : tie.Need-wire-of-requires Inv-loop μ-loop
 wire-of-requires c κs = search needs
 
@@ -60,16 +54,14 @@ table-of-spec =
     Inv-loop
     μ-loop
     counters-of-requires
-    condition-of-requires
+    station-of-requires
     loop-holds
-    cast-i
-    mul-t11
-    condition-of-requires-2
+    cast-station-of
+    station-of-requires-2
     mul-stations
     array-set-from-stations
     add-k
     loop-less
     loop-again
-    words-requires
     wire-of-requires
     returns)

@@ -25,7 +25,7 @@ abbrev left : TableMessage → List ℕ
 left m = map leftIn (longStretch (m .condition))
 
 abbrev Inv-loop : tie.InvT-loop
-Inv-loop count messages firsts₀ lefts₀ n₀ i₀ firsts lefts n i = (i ≤ count) × Filled first 0 messages i n firsts × Filled left 0 messages i n lefts
+Inv-loop count messages firsts₀ lefts₀ n₀ i₀ firsts lefts n i = (i ≤ count) × Filled 128 first 0 messages i n firsts × Filled 128 left 0 messages i n lefts
 
 abbrev μ-loop : tie.MeasureT-loop
 μ-loop count messages firsts₀ lefts₀ n₀ i₀ firsts lefts n i = count - i
@@ -64,7 +64,7 @@ loop-again : tie.Need-loop-again Inv-loop μ-loop
 loop-again c =
     let l = c .before .before .before .before .loop in
     let a = c .before .before .before .before .before .args in
-    let w : length (a .t1) ≡ 64 = search needs in
+    let w : length (a .t1) ≡ 128 = search needs in
     let h = c .before .long-stretch .result in
     let e = long-first (getD (a .t1) (l .i) noTableMessage .condition) h (c .before .long-stretch .ensures) in
     let f = long-left (getD (a .t1) (l .i) noTableMessage .condition) h (c .before .long-stretch .ensures) in

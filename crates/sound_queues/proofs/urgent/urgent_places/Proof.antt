@@ -20,7 +20,7 @@ abbrev gives : TableMessage → List ℕ
 gives m = urgentPlace (m .condition)
 
 abbrev Inv-loop : tie.InvT-loop
-Inv-loop count messages list₀ n₀ i₀ list n i = (i ≤ count) × Filled gives 0 messages i n list
+Inv-loop count messages list₀ n₀ i₀ list n i = (i ≤ count) × Filled 128 gives 0 messages i n list
 
 abbrev μ-loop : tie.MeasureT-loop
 μ-loop count messages list₀ n₀ i₀ list n i = count - i
@@ -56,7 +56,7 @@ loop-again : tie.Need-loop-again Inv-loop μ-loop
 loop-again c =
     let l = c .before .before .before .before .loop in
     let a = c .before .before .before .before .before .args in
-    let w : length (a .t1) ≡ 64 = search needs in
+    let w : length (a .t1) ≡ 128 = search needs in
     let h = c .before .urgent-place .result in
     let e = urgent-found (getD (a .t1) (l .i) noTableMessage .condition) h (c .before .urgent-place .ensures) in
     ⊎-elim

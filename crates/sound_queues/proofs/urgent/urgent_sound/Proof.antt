@@ -22,13 +22,13 @@ urgent-places-requires c κs = omega (arith, c .least .ensures)
 array-share-prefix-list : tie.Need-array-share-prefix-list
 array-share-prefix-list c =
     let r = c .before .urgent-places in
-    let v : length (r .result .list) ≡ 64 = search needs in
+    let v : length (r .result .list) ≡ 128 = search needs in
     omega (arith, places-in-array (r .result) (urgentPlaces (take (c .before .before .least .result) (c .before .before .before .args .messages))) (r .ensures) v)
 
 slice-aggregate-taken-once : tie.Need-slice-aggregate-taken-once
 slice-aggregate-taken-once c =
     let r = c .before .before .urgent-places in
-    let v : length (r .result .list) ≡ 64 = search needs in
+    let v : length (r .result .list) ≡ 128 = search needs in
     sym (length-take-le (r .result .count) (r .result .list) (omega (arith, places-in-array (r .result) (urgentPlaces (take (c .before .before .before .least .result) (c .before .before .before .before .args .messages))) (r .ensures) v)))
 
 taken-once-requires : tie.Need-taken-once-requires
@@ -39,7 +39,7 @@ returns c =
     let r = c .before .before .before .urgent-places in
     let k = c .before .before .before .before .least in
     let a = c .before .before .before .before .before .args in
-    let w : length (a .messages) ≡ 64 = search needs in
+    let w : length (a .messages) ≡ 128 = search needs in
     c .taken-once .ensures
     ∙ ap (λ (l : List ℕ). takenOnce l (a .queue)) (places-used (r .result) (urgentPlaces (take (k .result) (a .messages))) (r .ensures))
     ∙ ap (λ (l : List TableMessage). takenOnce (urgentPlaces l) (a .queue)) (all-taken (a .messages) w (a .count) (k .result) (k .ensures))

@@ -20,7 +20,7 @@ abbrev gives : Station → List ℕ
 gives s = indexIn s ∷ []
 
 abbrev Inv-loop : tie.InvT-loop
-Inv-loop count stations list₀ i₀ list i = (i ≤ count) × Filled gives 0 stations i i list
+Inv-loop count stations list₀ i₀ list i = (i ≤ count) × Filled 64 gives 0 stations i i list
 
 abbrev μ-loop : tie.MeasureT-loop
 μ-loop count stations list₀ i₀ list i = count - i

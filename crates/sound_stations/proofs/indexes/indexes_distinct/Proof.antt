@@ -37,7 +37,7 @@ returns c =
     let l = take (a .count) (a .stations) in
     let w : length (a .stations) ≡ 64 = search needs in
     let n : a .count ≡ length (map indexIn l) = sym (length-map l indexIn ∙ length-take-le (a .count) (a .stations) (omega arith)) in
-    c .distinct .ensures ∙ ap (eachPair differ) (used 0 (r .result) (a .count) (map indexIn l) (r .ensures) n) ∙ pairs-map indexIn differ l
+    c .distinct .ensures ∙ ap (eachPair differ) (used 64 0 (r .result) (a .count) (map indexIn l) (r .ensures) n) ∙ pairs-map indexIn differ l
 
 pub indexes-distinct-spec : {M : Type 1} → statement M
 indexes-distinct-spec =
