@@ -1,11 +1,12 @@
 -- The segment of two messages, the short or the long one's by the turn (paper 02, T-04). Assumes nothing.
 use Prim.Native.Nat.{ℕ}
-use mathlib.Core.Bool.{Bool, cond, _&&_}
+use mathlib.Core.Bool.{Bool, cond}
 use mathlib.Core.List.{List, []}
-use lib.Dec.{leb, eqb}
+use lib.Dec.{eqb}
 use lib.ListN.{length}
 use Rattle.message.specs.Message.{fitsShort, fitsLong}
 use Rattle.segments.specs.Segment.{isSegment, cut}
+use Rattle.rules.specs.Limits.{between}
 use Rattle.rules.specs.declared.Turn.{Turn}
 use Rattle.rules.specs.declared.Turn.the-variants.{Owned as OwnedTurn, Urgent as UrgentTurn, Long as LongTurn}
 use Rattle.rules.specs.declared.Turn.the-variants.{Resolve as ResolveTurn, Open as OpenTurn}
@@ -36,4 +37,4 @@ turnSegmentOf turn short long j = byTurn turn (takenPart fitsShort short j) (tak
 
 -- a kind by its limits, from `least` up to `most` bytes, as the function below the call has it
 unfoldable pub within : ℕ → ℕ → ℕ → Bool
-within least most bytes = leb least bytes && leb bytes most
+within least most bytes = between least bytes most
