@@ -122,8 +122,8 @@ def channel_slot(ch, picks):
     turn = results[0][0][0]
     sent = [(box["index"], answer[2]) for answer, box in results if answer[2] or turn == "owned,%d" % box["index"]]
     heard = [read(word, count) for word, count in row]
-    weight = sum({"empty": 0, "single": 1, "collide": 2}[what[0]] for what in heard)
-    delivered = sum(what[0] == "single" and what[2] == 1 for what in heard) if first["Open"][g - 1] and weight == 1 else 0
+    of_one_slot = sum(what[0] == "single" and what[2] == 1 for what in heard)
+    delivered = 1 if first["Open"][g - 1] and of_one_slot == 1 and ("collide",) not in heard else 0
     if turn in ("urgent", "long"):
         delivered += len(sent)
     lone = sent[0] if len(sent) == 1 else (0, 0)
@@ -525,6 +525,23 @@ def streams_beside_two_messages():
     show(ch)
 
 
+# ---- one short request among long ones
+
+def short_among_long():
+    """Five boxes. A short request among long ones is delivered as its row is heard; then there are two short ones, which are queued, as is one beside a collision,
+    and one of that collision, among long ones again, after the slot that resolved it."""
+    ch = begun(EMPTY_TABLE.with_count(5), 4, 1, upward(7, 5))
+    for offers, first, others in (
+        (((7, 1), (8, 49), (9, 97)), (2, 1, 4, 3, 3), [(1, 1, 1, 1, 1)] * 6),
+        (((7, 48), (8, 50), (9, 1)), (1, 2, 3, 4, 4), [(1, 1, 1, 1, 1)] * 4),
+        (((7, 1), (8, 49), (9, 96), (10, 1), (11, 60)), (4, 3, 2, 2, 2), [(1, 1, 4, 2, 3)] * 9),
+    ):
+        for index, size in offers:
+            ch = offered(ch, index, size)
+        for picks in (first, *others):
+            ch = slotted(ch, *picks)
+
+
 def main():
     starts_refused()
     starts()
@@ -543,6 +560,7 @@ def main():
     served_doubled()
     both_from_the_start()
     streams_beside_two_messages()
+    short_among_long()
 
 
 if __name__ == "__main__":

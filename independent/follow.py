@@ -45,7 +45,7 @@ class Listener:
             raise Refusal(6)
         row = [minislot(fields[2 * i], fields[2 * i + 1]) for i in range(self.m)]
         g = self.group
-        weight = sum(0 if x is None else 2 if x == "collide" else 1 for x in row)
+        success = self.opened[g] and "collide" not in row and row.count(1) == 1
         h, long, rq = self.h, self.long, self.rq[g]
         for x in row:
             if x is None:
@@ -53,8 +53,7 @@ class Listener:
             if x == "collide":
                 rq += 1
             elif x == 1:
-                if not (self.opened[g] and weight == 1):
-                    h += 1
+                h += not success
             else:
                 long += x
         if h > 4095 or rq > 4095 or long > 65535:
@@ -101,6 +100,12 @@ def resolution():
     rows = ["3,3", "127,1,0,0,0,0", "0,0,4095,255,0,0", "63,1,0,0,0,0", "63,1,95,1,0,0", "127,9,255,0,4095,3",
             "0,0,0,0,0,0", "0,0,0,0,111,4", "0,0,0,0,0,0", "63,2,127,1,119,1", "0,0,0,0,0,0", "0,0,0,0,0,0"]
     return lines(*(rows + ["0,0,0,0,0,0"] * 24))
+
+
+def among_long(m, n, *rows):
+    """The rows, each with so many silent ones after it that its group is open again."""
+    silent = ",".join(["0,0"] * m)
+    return lines("%d,%d" % (m, n), *[line for row in rows for line in [row] + [silent] * 12 * n])
 
 
 def cases():
@@ -167,6 +172,13 @@ def cases():
     yield "number_7_of_clicks", lines("8,1", *(["1,0," * 7 + "31,255"] * 600))
     yield "number_7_of_singles", lines("8,1", *(["63,1," * 7 + "63,1"] * 600))
     yield "three_groups", resolution()
+    yield "a_short_one_among_long_ones", among_long(4, 1, "95,2,63,1,0,0,111,3", "63,1,95,2,111,2,119,2", "0,0,95,5,0,0,63,1", "95,2,111,2,119,2,63,1", "0,0,0,0,63,1,95,9")
+    yield "a_short_one_among_seven_long_ones", lines("8,1", "95,2,111,2,119,2,123,3,63,1,125,2,126,2,159,255", *["0,0," * 7 + "0,0"] * 3, "95,2,111,2,119,2,123,3,63,1,125,2,126,2,159,255")
+    yield "two_short_ones_among_long_ones", among_long(4, 1, "63,1,95,2,0,0,111,1", "63,1,95,1,111,2,119,3", "95,2,63,1,111,1,119,2")
+    yield "a_click_beside_a_short_one_among_long_ones", among_long(4, 1, "95,2,63,1,1,0,111,3", "31,255,63,1,95,2,111,2", "63,1,95,2,111,4,62,0", "63,1,95,2,111,4,0,0")
+    yield "a_collide_beside_a_short_one_among_long_ones", among_long(4, 1, "95,2,63,1,127,0,111,3", "4095,1,63,1,95,2,111,2", "63,1,95,2,0,0,111,4")
+    yield "short_ones_among_long_ones_in_three_groups", among_long(3, 3, "63,1,95,2,0,0", "0,0,95,3,63,1", "95,1,111,2,63,1", "111,2,63,1,119,4", "63,1,7,0,95,2")
+    yield "short_ones_among_long_ones_not_open", lines("3,1", "95,9,0,0,0,0", *["63,1,111,2,119,2", "111,2,63,1,0,0", "0,0,0,0,0,0"] * 3)
 
 
 if __name__ == "__main__":

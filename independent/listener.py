@@ -1,5 +1,5 @@
 #!/usr/bin/env python3
-"""What crates/listener_run must write: the listener of paper 01 with the calendar of paper 02's T-02, written from the papers' text alone.
+"""What crates/listener_run must write: the listener of paper 01, with the calendar of paper 02's T-02 and the success of its T-05, written from the papers' text alone.
 
     python3 independent/listener.py > crates/listener_run/stdout
 """
@@ -102,11 +102,11 @@ def listen(record, words, counts):
     heard = [read(w, c) for w, c in zip(words, counts)]
     g = record.group
     # step 1
-    weight = sum({'empty': 0, 'single': 1, 'collide': 2}[f[0]] for f in heard)
+    success = record.open[g] and ('collide',) not in heard and heard.count(('single', 1)) == 1
     h, long, rq = record.h, record.long, record.rq[g]
     for f in heard:
-        if f[0] == 'single' and f[1] == 1:
-            if not (record.open[g] and weight == 1):
+        if f == ('single', 1):
+            if not success:
                 h += 1
         elif f[0] == 'single':
             long += f[1]
@@ -369,6 +369,57 @@ def streams():
         ways(record, *tape)
 
 
+# ---- one short request among long ones
+
+PATTERNS = (63, 95, 111, 119, 123, 125, 126, 159)
+TOTALS = (2, 3, 255, 7, 4, 16, 9)
+COLLIDES = ((127, 0), (1, 0), (255, 3), (3, 1), (4095, 255), (31, 0))  # every second one a click
+
+
+def mixes(m):
+    """How many Singles of 1, long Singles and Collides a row of m minislots has: up to two, seven and one."""
+    for collides in (0, 1):
+        for short in (0, 1, 2):
+            for long in range(min(7, m - short - collides) + 1):
+                yield short, long, collides
+
+
+def turned(items, by):
+    """The items, so many of the last ones moved to the front."""
+    cut = len(items) - by % len(items)
+    return [*items[cut:], *items[:cut]]
+
+
+def mixed(m, short, long, collides):
+    """Such a row: a Single of 1, the long ones, the second Single of 1, a Collide and Empty; the whole of it is turned, so that each stands anywhere."""
+    counts = [1] * (short > 0) + turned(TOTALS, m + short)[:long] + [1] * (short > 1)
+    minislots = list(zip(turned(PATTERNS, m + long), counts)) + [COLLIDES[(m + short + long) % 6]] * collides
+    minislots = turned(minislots + [(0, 0)] * (m - len(minislots)), m + long + 2 * short + 3 * collides)
+    return [w for w, _ in minislots], [c for _, c in minislots]
+
+
+def brief_row(words, counts):
+    """A row, with a letter for the name of each list."""
+    print('%s %s' % (listed('row w', words), listed('c', counts)))
+
+
+def among_long_ones():
+    """Each such row after an open slot and after another; H at its limit, which a Single of 1 passes unless its success is immediate."""
+    for is_open in (True, False):
+        for m in range(2, 9):
+            record = Record(m, 1, 1, 0, 0, [0] * 8, [is_open] + [True] * 7)
+            begins(record)
+            for short, long, collides in mixes(m):
+                words, counts = mixed(m, short, long, collides)
+                brief_row(words, counts)
+                answer, after = listened(record, words, counts)
+                # without a Single of 1 the mark does not matter, and one way of listening is enough for each
+                for way in ('value', 'lent') if short else ('value',) if is_open else ('lent',):
+                    print('%s%s%s' % (way, answer, after))
+    for is_open in (True, False):
+        case(Record(3, 1, 1, 4095, 0, [0] * 8, [is_open] + [True] * 7), [95, 63, 111], [2, 1, 255])
+
+
 def main():
     for m in (0, 1, 2, 3, 7, 8, 9, 255):
         for n in (0, 1, 2, 7, 8, 9, 255):
@@ -476,6 +527,7 @@ def main():
     settings()
     owned_slots()
     streams()
+    among_long_ones()
 
 
 if __name__ == '__main__':

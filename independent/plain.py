@@ -72,7 +72,9 @@ class Plain:
             raise Refusal(11)
         before, g = len(self.history), self.group
         row, self.asking[g] = self.asking[g], {j: [] for j in range(1, self.m + 1)}
-        weight = sum(min(len(row[j]), 2) for j in row)
+        singles = [messages[0]["slots"] for messages in row.values() if len(messages) == 1]
+        collides = [messages for messages in row.values() if len(messages) > 1]
+        success = self.open[g] and not collides and singles.count(1) == 1
         H, N, RQ = list(self.urgent), list(self.long), list(self.resolution[g])
         at_once = []
         for j in range(1, self.m + 1):
@@ -80,7 +82,7 @@ class Plain:
                 message = row[j][0]
                 if message["slots"] > 1:
                     N += [(message, k) for k in range(1, message["slots"] + 1)]
-                elif self.open[g] and weight == 1:
+                elif success:
                     at_once.append(message)
                 else:
                     H.append(message)

@@ -102,7 +102,7 @@ def rehearse(data):
 
 # ---- what the lists are made of
 
-ARRIVES, KIND, SIZE, PICK, BAD, BAD_KIND, SET, SET_KIND, OWNED, OWNER = range(1, 11)
+ARRIVES, KIND, SIZE, PICK, BAD, BAD_KIND, SET, SET_KIND, OWNED, OWNER, SHORTS, LONGS, APART = range(1, 14)
 
 
 def scrambled(x):
@@ -198,6 +198,25 @@ def driven(stations, m, n, slots, calendars=False):
             calls.append("show")
         calls.append(slot(picks[:-1]))
         if s % apart == apart // 2:
+            calls.append("show")
+    return lines(*calls)
+
+
+def bursts(n, slots):
+    """Every twelfth slot some of eight stations get a message by the same rule: mostly one of them a short one, and up to seven a long one. No two pick alike,
+    or, in about one burst of four, it is left to chance. So a short message is often alone among long ones, after an open slot or another."""
+    indexes = [(331 * k + n) % 924 for k in range(8)]
+    calls = [start(8, n, indexes)]
+    for s in range(slots):
+        burst = s // 12
+        if s % 12 == 0:
+            first, short = draw(burst, n, ARRIVES, 8), [0, 1, 1, 1, 1, 1, 1, 2][draw(burst, n, SHORTS, 8)]
+            longs = min([1, 1, 2, 2, 3, 4, 5, 7][draw(burst, n, LONGS, 8)], 8 - short)
+            chosen = [indexes[(first + 3 * k) % 8] for k in range(short + longs)]
+            calls += ["offer,%d,%d" % (index, 1 + draw(s, n, SIZE, 48) if k < short else 49 + draw(s, k, SIZE, 72)) for k, index in enumerate(chosen)]
+        by_chance = draw(burst, n, APART, 4) == 0
+        calls.append(slot(1 + draw(s, k, PICK, 8) if by_chance else (5 * k + s) % 8 + 1 for k in range(8)))
+        if s % 60 == 1:
             calls.append("show")
     return lines(*calls)
 
@@ -321,6 +340,52 @@ def two_messages():
     yield "sixty_four_with_two_messages", lines(
         start(8, 2, MANY), *["offer,%d,%d" % (index, 1 + 48 * (k % 2)) for k, index in enumerate(MANY)], *["offer,%d,%d" % (index, 49 - 48 * (k % 2)) for k, index in enumerate(MANY)],
         BY_COLUMN, BY_COLUMN, "show", *[BY_ROW] * 8, "show", *[BY_ROW] * 60, "show", *[BY_ROW] * 130, "show")
+
+
+def short_among_long():
+    """A short request among long ones: alone of its kind in an open slot without a collision, it is delivered as its row is heard; otherwise it is queued."""
+    for longs in range(1, 8):
+        stations = range(7, 8 + longs)
+        short = 7 + longs // 2
+        offers = ["offer,%d,%d" % (i, 1 if i == short else 48 * (2 + i % 3)) for i in stations]
+        picked, silent = slot((3 * i + longs) % 8 + 1 for i in stations), slot([1] * (1 + longs))
+        served = sum(2 + i % 3 for i in stations if i != short)
+        yield "a_short_one_among_long_ones_%d" % longs, lines(
+            start(8, 1, stations), *offers, picked, "show", silent, "show", *[silent] * (served // 2), "show", *[silent] * (served - served // 2), "show")
+    seven = "8,1,7,8,9,10,11,12,13"
+    others = ["offer,%d,%d" % (i, 49 + 40 * (i % 2)) for i in (9, 10, 11, 12)]
+    for name, calls in (
+        ("two_short_ones_among_long_ones", ["offer,7,1", "offer,13,48", *others, "slot,6,5,8,2,3,4,1"]),
+        ("a_short_one_among_long_ones_and_a_collision_of_short_ones", ["offer,7,1", "offer,8,1", "offer,13,48", *others, "slot,6,1,8,2,3,4,1"]),
+        ("a_short_one_among_long_ones_and_a_collision_of_long_ones", ["offer,7,1", "offer,8,97", "offer,13,50", *others, "slot,6,5,8,2,3,4,5"]),
+        ("a_short_one_that_collides_beside_another_among_long_ones", ["offer,7,1", "offer,8,1", *others, "slot,6,2,8,2,3,4,5"]),
+        ("a_short_one_that_collides_with_a_long_one_among_long_ones", ["offer,7,1", *others, "slot,3,2,8,2,3,4,5"]),
+    ):
+        yield name, lines(seven, *calls, "show", *["slot,1,2,3,4,5,6,7", "show"] * 3, *["slot,1,2,3,4,5,6,7"] * 12, "show")
+    # asked in a slot that is not open
+    apart = "slot,4,1,8,6"
+    four, mixed = "8,1,7,8,9,10", ["offer,7,1", "offer,8,97", "offer,9,49"]
+    for name, calls in (
+        ("after_a_resolve_turn", [*mixed, "slot,1,1,1,1"]), ("after_a_long_turn", ["offer,10,97", "slot,1,1,1,1", *mixed]),
+        ("after_an_urgent_turn", ["offer,10,1", "offer,8,1", "slot,1,2,3,4", *mixed]), ("after_an_owned_turn", [calendar({0: 10}), *mixed]),
+        ("between_owned_turns", [calendar({0: 10, 1: 7}), *mixed]),
+    ):
+        yield "a_short_one_among_long_ones_" + name, shown(four, *calls, *[apart] * 10)
+    # asked in an open slot, and heard in an owned one
+    yield "a_short_one_among_long_ones_before_an_owned_turn", shown(four, calendar({1: 10, 2: 9, 4: 7}), *mixed, *[apart] * 10)
+    yield "a_calendar_between_a_short_one_among_long_ones_and_its_row", shown(four, *mixed, apart, calendar({1: 8}), *[apart] * 7)
+    # stations with two messages
+    yield "a_station_with_two_messages_beside_a_long_one", shown(four, "offer,7,1", "offer,7,145", "offer,8,97", *[apart] * 9)
+    yield "two_stations_with_two_messages_beside_a_long_one", shown(four, "offer,7,1", "offer,7,145", "offer,8,97", "offer,10,49", "offer,10,1", *[apart] * 13)
+    yield "a_long_one_of_a_station_with_two_messages_beside_a_short_one", shown("8,2,7,8,9,10", "offer,7,1", "offer,7,145", apart, "offer,8,1", "offer,9,49", *[apart] * 10)
+    yield "the_same_station_again_among_long_ones", shown(four, *[call for i in (8, 9, 10) for call in ("offer,7,1", "offer,%d,49" % i, apart, apart, "offer,7,2", apart, apart)], apart)
+    # groups
+    yield "short_ones_among_long_ones_in_two_groups", shown("8,2,7,8,9,10,11,12", *mixed, slot(range(1, 7)), "offer,10,48", "offer,11,49", "offer,12,97", *[slot(range(8, 2, -1))] * 13)
+    yield "short_ones_among_long_ones_in_eight_groups", lines(
+        start(8, 8, range(24)), *[call for g in range(8) for call in ("offer,%d,49" % (3 * g), "offer,%d,1" % (3 * g + 1), "offer,%d,97" % (3 * g + 2), slot(i % 8 + 1 for i in range(24)))],
+        "show", *[slot(i % 8 + 1 for i in range(24))] * 8, "show", *[slot([1] * 24)] * 32, "show", slot([1] * 24), "show")
+    for n in (1, 3):
+        yield "short_ones_among_long_ones_in_bursts_groups_%d" % n, bursts(n, 720)
 
 
 def streams():
@@ -523,7 +588,7 @@ def drives():
 
 
 def cases():
-    for part in (walks, pairs, two_messages, streams, starts, refusals, calendars, broken, drives):
+    for part in (walks, pairs, two_messages, short_among_long, streams, starts, refusals, calendars, broken, drives):
         yield from part()
 
 

@@ -183,8 +183,8 @@ def slot(box, row, pick):
     heard = [read(word, count) for word, count in row]
     g = box["next"]
     H, N, RQ = box["H"], box["N"], box["RQ"][g - 1]
-    weight = sum({"empty": 0, "single": 1, "collide": 2}[what[0]] for what in heard)
-    success = box["Open"][g - 1] and weight == 1
+    short = [what for what in heard if what[0] == "single" and what[2] == 1]
+    success = box["Open"][g - 1] and len(short) == 1 and all(what[0] != "collide" for what in heard)
     after = {name: box[name] for name in RECORDS}
     name, mine, total = asked_here(box)
     for j, what in enumerate(heard, start=1):  # step 1
@@ -818,6 +818,103 @@ def lives_of_two_beside():
         box = beside(box, ear, recording, place, pick)
 
 
+# ---- one short request among long ones
+
+OWN, OTHERS = WORDS[0], WORDS[1:13]
+LENGTHS = (255, 2, 3, 7, 16, 4, 9)
+LONGEST = 12  # minislots of a recording: a line of the program's cases has 24 numbers at most
+
+
+def in_step(box, ear, recording, place, pick):
+    """A row of the recording that both hear; their counters must be the same after it."""
+    box = beside(box, ear, recording, place, pick)
+    assert [box["H"], box["N"], box["RQ"], box["Open"]] == [ear.h, ear.long, list(ear.rq.values()), list(ear.open.values())]
+    return box
+
+
+def passed_along(m, short, collide, most, fewest):
+    """A recording and places in it, the first one's row having the most long ones: at each further place one has left the row at one end, and an Empty come in at
+    the other. The short ones and the Collide, if there is one, are in all rows. For an odd m the rows go from the recording's end to its start."""
+    leaving = most - fewest
+    counts = [*LENGTHS[:leaving], *[1] * (short > 0), *LENGTHS[leaving:most], *[1] * (short > 1)]
+    minislots = [*zip(OTHERS, counts), *[collide] * (collide != EMPTY)]
+    minislots += [EMPTY] * (m + leaving - len(minislots))
+    places = range(leaving + 1)
+    return (minislots[::-1], places[::-1]) if m % 2 else (minislots, places)
+
+
+def mix_of(box, row):
+    """What the box is to hear: m, how many Singles of 1, long ones and Collides the row has, and whether the last slot of its group was open."""
+    heard = [read(word, count) for word, count in row]
+    counts = [what[2] for what in heard if what[0] == "single"]
+    return box["m"], counts.count(1), len(counts) - counts.count(1), heard.count(("collide",)), box["Open"][box["next"] - 1]
+
+
+def short_among_long():
+    """Rows with up to two short requests, up to seven long ones and a Collide or none: each after an open slot and after another. There are as many groups as a
+    recording has rows, all of them open at first; when the rows come again none is."""
+    seen = set()
+    for m in range(2, 9):
+        for collides in (0, 1):
+            for short in range(min(2, m - collides) + 1):
+                longs = min(7, m - short - collides)
+                for most, fewest in ((longs, 0),) if longs <= LONGEST - m else ((longs, 4), (3, 0)):
+                    clicked = (m + short + fewest // 4) % 2 == 0
+                    collide = EMPTY if not collides else (2 ** ((m + short) % 5 + 1) - 1, most) if clicked else (OWN | OTHERS[-1 - short], 3)
+                    rows_heard_twice(m, collide, clicked, passed_along(m, short, collide, most, fewest), seen)
+    assert seen == {(m, *mix, is_open) for m in range(2, 9) for mix in listener.mixes(m) for is_open in (True, False)}
+
+
+def rows_heard_twice(m, collide, clicked, rows, seen):
+    """The rows of a recording, and then once more, by a box and a listener."""
+    recording, places = rows
+    n, pick = len(places), 1
+    if collide == EMPTY:
+        box = begin(m, n, 0)  # free the first time; then fresh, it asks, and is not heard any more
+    elif clicked:
+        box = offered(offered(begin(m, n, 0), 1), 49)  # fresh, and waits for the resolution of each group
+    else:
+        pick = recording.index(collide) - places[0] + 1  # in the Collide, both times: it asks again in the same minislot
+        box = given(m, n, 1, 0, 0, 0, 0, True, 0, *alone(("asked", 1, pick, m // 2 % 2 + 1)))
+    ear = listening(m, n)
+    for again in (False, True):
+        if again and collide == EMPTY:
+            box = offered(offered(box, 1), 49)
+        for place in places:
+            seen.add(mix_of(box, recording[place:place + m]))
+            box = in_step(box, ear, recording, place, pick)
+
+
+def own_among_long():
+    """The box made the short request of a row, or a long one of another, and has the other message fresh: it asks for that in the slot that hears the first, so
+    that the second row has it. The short one is heard after an open slot and the long one after another, then the other way round. The two rows are from one
+    recording, and may share minislots."""
+    for m in range(2, 9):
+        further = min(m, LONGEST - m)
+        first, total = m // 2 % further, LENGTHS[m - 2]
+        second, other = (m, m + further - 1) if m % 2 else (m + further - 1, m)
+        recording = [*zip(OTHERS, (LENGTHS * 2)[:m + further])]
+        recording[first], recording[second], recording[other] = (OWN, 1), (OWN, total), (OTHERS[other], 1)
+        short, long = first + 1, second - further + 1
+        for conditions, places, picks in (
+            ((("asked", 1, short, 1), ("fresh", total)), (0, further), (long, 1)), ((("fresh", 1), ("asked", 1, long, total)), (further, 0), (short, 1)),
+        ):
+            box = given(m, 1, 1, 0, 0, 0, 0, True, 0, *conditions)
+            ear = listening(m, 1)
+            for place, pick in zip(places, picks):
+                box = in_step(box, ear, recording, place, pick)
+
+
+def own_not_alone():
+    """The box's short request after an open slot, beside long ones and another short one, a click or a Collide: it is queued."""
+    for m in (4, 8):
+        box = given(m, 1, 1, 0, 0, 0, 0, True, 0, ("asked", 1, m // 2, 1))
+        for last in ((OTHERS[-1], 1), (16, 255), (OTHERS[-1] | OTHERS[-2], 3)):
+            row = [*zip(OTHERS, (LENGTHS * 2)[:m - 1]), last]
+            row[m // 2 - 1] = (OWN, 1)
+            in_step(box, listening(m, 1), row, 0, 1)
+
+
 def main():
     starts()
     offers()
@@ -842,6 +939,9 @@ def main():
     data_of_two()
     lives_of_two()
     lives_of_two_beside()
+    short_among_long()
+    own_among_long()
+    own_not_alone()
 
 
 if __name__ == "__main__":

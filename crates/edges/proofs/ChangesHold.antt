@@ -1,65 +1,35 @@
 -- Each counter's law of change in one slot, and that listening is a function of the record and the row: equal records that hear equal rows
--- are equal after, with equal answers. By induction on the row, then by the turn.
+-- are equal after, with equal answers. By what a row adds, then by the turn.
 -- Assumes nothing.
 use mathlib.Core.Path.{_≡_, refl, ap, _∙_}
 use mathlib.Core.Bool.{Bool, true, false, cond}
-use mathlib.Core.List.{List, [], _∷_}
+use mathlib.Core.List.{List}
 use mathlib.Core.Option.{Option, none, some}
 use Prim.Native.Nat.{ℕ, _+_, _-_, _<_}
 use native.Mathlib.Omega.{arith}
-use lib.Dec.{eqb, ltb}
+use lib.Dec.{ltb}
 use lib.ListN.{length}
 use lib.Seq.{getD-set-same, getD-set-other}
 use borrow.Author.Tests.{ltb-true}
 use Rattle.minislot.specs.declared.Feedback.{Feedback}
-use Rattle.minislot.specs.declared.Feedback.the-variants.{Empty, Single, Collide}
 use Rattle.rules.specs.declared.Counters.{Counters}
 use Rattle.rules.specs.declared.Places.{Places}
 use Rattle.rules.specs.Calendars.{ownerOf}
 use Rattle.rules.specs.Limits.{withinLimits}
-use Rattle.rules.specs.Queueing.{queued, queuedSingle, queuedRow, placesOf, immediateOf, placesAfter}
+use Rattle.rules.specs.Queueing.{placesOf, immediateOf, placesAfter}
 use Rattle.rules.specs.declared.Turn.the-variants.{Urgent as UrgentTurn, Long as LongTurn, Resolve as ResolveTurn, Open as OpenTurn}
 use Rattle.rules.specs.Turns.{turnOf}
 use Rattle.rules.specs.Falling.{fallen, urgentFalls, longFalls}
 use Rattle.rules.specs.Listening.{listeningOf}
-use Rattle.edges.specs.Changes.{shortSingles, longSlots, collides, urgentServed, longServed, Changes}
+use Rattle.edges.specs.Changes.{urgentServed, longServed, Changes}
 use Rattle.rules.proofs.LimitLaws.{within-limits, arrays-lengths}
+use Rattle.rules.proofs.QueueingLaws.{added}
 
 -- ---- listening is a function
 
 pub same-listening : (c d : Counters) (words words′ counts counts′ : List ℕ) → c ≡ d → words ≡ words′ → counts ≡ counts′
     → listeningOf c words counts ≡ listeningOf d words′ counts′
 same-listening c d words words′ counts counts′ e w n = rw (e, w, n)
-
--- ---- what a row adds
-
-pub record Added (b : Bool) (p : Places) (row : List Feedback) : Type 0 where
-  pub urgent : queuedRow b p row .urgent ≡ p .urgent + cond b 0 (shortSingles row)
-  pub long : queuedRow b p row .long ≡ p .long + longSlots row
-  pub resolution : queuedRow b p row .resolution ≡ p .resolution + collides row
-
-pub added : (b : Bool) (p : Places) (row : List Feedback) → Added b p row
-unfolding queuedRow shortSingles longSlots collides
-added true p [] = record { urgent = omega arith; long = omega arith; resolution = omega arith }
-added false p [] = record { urgent = omega arith; long = omega arith; resolution = omega arith }
-added b p (Empty ∷ row) = let a = added b p row in record { urgent = a .urgent; long = a .long; resolution = a .resolution }
-added b p (Single i c ∷ row) =
-    let a = go b (eqb c 1) (added b (queuedSingle b (eqb c 1) c p) row) in
-    record { urgent = a .urgent; long = a .long; resolution = a .resolution }
-  where
-    go : (b o : Bool) → Added b (queuedSingle b o c p) row
-        → record {
-          urgent : queuedRow b (queuedSingle b o c p) row .urgent ≡ p .urgent + cond b 0 (cond o 1 0 + shortSingles row);
-          long : queuedRow b (queuedSingle b o c p) row .long ≡ p .long + (cond o 0 c + longSlots row);
-          resolution : queuedRow b (queuedSingle b o c p) row .resolution ≡ p .resolution + collides row;
-        }
-    go true true a = record { urgent = a .urgent; long = omega (arith, a .long); resolution = a .resolution }
-    go false true a = record { urgent = omega (arith, a .urgent); long = omega (arith, a .long); resolution = a .resolution }
-    go true false a = record { urgent = omega (arith, a .urgent); long = omega (arith, a .long); resolution = a .resolution }
-    go false false a = record { urgent = omega (arith, a .urgent); long = omega (arith, a .long); resolution = a .resolution }
-added b p (Collide ∷ row) =
-    let a = added b (queued b p Collide) row in
-    record { urgent = a .urgent; long = a .long; resolution = omega (arith, a .resolution) }
 
 -- ---- what a turn takes
 

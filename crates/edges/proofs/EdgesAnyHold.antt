@@ -2,9 +2,9 @@
 -- minislots; a resolve slot's mark because the slots of the other groups leave it alone until the group is next again.
 -- Assumes nothing.
 use mathlib.Core.Path.{_≡_, refl, ap, _∙_, subst, sym}
-use mathlib.Core.Bool.{Bool, true, false, cond, _&&_, and-eq-true-iff}
+use mathlib.Core.Bool.{Bool, true, false, cond, and-false, and-eq-true-iff}
 use mathlib.Core.List.{List, [], _∷_, _++_}
-use mathlib.Core.Logic.{inr, ⊎-elim}
+use mathlib.Core.Logic.{_⊎_, inr, ⊎-elim}
 use Prim.Native.Nat.{ℕ, zero, suc, _+_, _-_, _*_, _≤_, _<_}
 use native.Mathlib.Omega.{arith}
 use lib.Dec.{eqb}
@@ -18,7 +18,6 @@ use Rattle.minislot.specs.declared.Feedback.{Feedback}
 use Rattle.minislot.specs.declared.Feedback.the-variants.{Empty, Single, Collide}
 use Rattle.minislot.specs.declared.Reading.the-variants.{Heard}
 use Rattle.minislot.specs.Reading.{readingOf}
-use Rattle.rows.specs.Row.{weightOf, weight}
 use Rattle.minislot.proofs.Readings.{reads-1, reads-click, reads-empty, reads-single, reads-collide}
 use Rattle.message.specs.declared.SlotTotal.the-variants.{Slots}
 use Rattle.message.specs.Message.{slotTotalOf}
@@ -27,15 +26,17 @@ use Rattle.rules.specs.declared.Counters.{Counters}
 use Rattle.rules.specs.declared.Places.{Places}
 use Rattle.rules.specs.declared.ListenAnswer.the-variants.{Went}
 use Rattle.rules.specs.Calendars.{ownerOf}
+use Rattle.rules.specs.RowCounts.{shortSingles, longSlots, collides}
 use Rattle.rules.specs.Queueing.{queued, queuedRow, immediateOf, openedOf, placesOf, placesAfter, stepOneOf}
 use Rattle.rules.specs.declared.Turn.{Turn}
 use Rattle.rules.specs.declared.Turn.the-variants.{Resolve as ResolveTurn}
 use Rattle.rules.specs.Turns.{turnOf, isOpen}
 use Rattle.rules.specs.Falling.{fallen, following}
 use Rattle.rules.specs.Listening.{listened, heardNumberOf, refusedListening, listenOf}
-use Rattle.edges.specs.Changes.{markOf}
-use Rattle.edges.specs.EdgesAny.{oneHeard, twoHeard, afterRows, goesThrough, allGoThrough, ResolveRound, JoinsUrgent, EdgesAny}
+use Rattle.edges.specs.Changes.{resolutionOf, markOf}
+use Rattle.edges.specs.EdgesAny.{places, oneHeard, twoHeard, afterRows, goesThrough, allGoThrough, ResolveRound, JoinsUrgent, EdgesAny}
 use Rattle.rules.proofs.LimitLaws.{within-limits, arrays-lengths}
+use Rattle.rules.proofs.QueueingLaws.{added}
 use Rattle.edges.proofs.GroupRounds.{NextAfter, following-in, one-fewer, other}
 
 -- ---- readings and slot totals
@@ -54,20 +55,15 @@ unfolding queuedRow
 skip-queued b p zero row = refl
 skip-queued b p (suc x) row = skip-queued b p x row
 
-skip-weight : (x : ℕ) (row : List Feedback) → weight (replicate x Empty ++ row) ≡ weight row
-unfolding weight
-skip-weight zero row = refl
-skip-weight (suc x) row = ap (λ (w : ℕ). 0 + w) (skip-weight x row) ∙ omega arith
+skip-collides : (x : ℕ) (row : List Feedback) → collides (replicate x Empty ++ row) ≡ collides row
+unfolding collides
+skip-collides zero row = refl
+skip-collides (suc x) row = skip-collides x row
 
 end-queued : (b : Bool) (p : Places) (y : ℕ) → queuedRow b p (replicate y Empty) ≡ p
 unfolding queuedRow
 end-queued b p zero = refl
 end-queued b p (suc y) = end-queued b p y
-
-end-weight : (y : ℕ) → weight (replicate y Empty) ≡ 0
-unfolding weight
-end-weight zero = refl
-end-weight (suc y) = omega (arith, end-weight y)
 
 one-queued : (b : Bool) (p : Places) (x : ℕ) (f : Feedback) (y : ℕ) → queuedRow b p (oneHeard x f y) ≡ queued b p f
 unfolding queuedRow
@@ -75,23 +71,28 @@ one-queued b p x f y = skip-queued b p x (f ∷ replicate y Empty) ∙ end-queue
 
 -- ---- a Single and a Collide
 
--- where the weight is not 1 there is no immediate success, whatever the mark
-heavy : (c : Counters) (row : List Feedback) → (weight row ≡ 1 → ⊥) → immediateOf c row ≡ false
-unfolding immediateOf
-heavy c row h = rw (ne-eqb (weight row) 1 h) (go (openedOf c))
-  where
-    go : (b : Bool) → b && false ≡ false
-    go true = refl
-    go false = refl
+places-are : (p : Places) {h n r : ℕ} → p .urgent ≡ h → p .long ≡ n → p .resolution ≡ r → p ≡ places h n r
+places-are p a b c = rw (← a, ← b, ← c)
 
-two-places : (c : Counters) (x : ℕ) (f : Feedback) (y : ℕ) (g : Feedback) (z : ℕ) → (weightOf f + weightOf g ≡ 1 → ⊥)
+-- beside a Collide there is no immediate success, whatever the mark
+collided : (c : Counters) (row : List Feedback) → 1 ≤ collides row → immediateOf c row ≡ false
+unfolding immediateOf
+collided c row h = rw (ne-eqb (collides row) 0 (λ e. omega arith), and-false)
+
+two-places : (c : Counters) (x : ℕ) (f : Feedback) (y : ℕ) (g : Feedback) (z : ℕ) → 1 ≤ collides (f ∷ oneHeard y g z)
     → placesAfter c (twoHeard x f y g z) ≡ queued false (queued false (placesOf c) f) g
-unfolding placesAfter queuedRow weight
+unfolding placesAfter queuedRow
 two-places c x f y g z h =
-    let both : weight (twoHeard x f y g z) ≡ weightOf f + weightOf g =
-    skip-weight x (f ∷ oneHeard y g z) ∙ ap (λ (w : ℕ). weightOf f + w) (skip-weight y (g ∷ replicate z Empty) ∙ omega (arith, end-weight z)) in
-    rw (heavy c (twoHeard x f y g z) (λ e. h (sym both ∙ e)))
+    rw (collided c (twoHeard x f y g z) (rw (skip-collides x (f ∷ oneHeard y g z)) h))
     (skip-queued false (placesOf c) x (f ∷ oneHeard y g z) ∙ one-queued false (queued false (placesOf c) f) y g z)
+
+collide-last : (i y z : ℕ) → 1 ≤ collides (Single i 1 ∷ oneHeard y Collide z)
+unfolding collides
+collide-last i y z = rw (skip-collides y (Collide ∷ replicate z Empty)) (omega arith)
+
+collide-first : (i y z : ℕ) → 1 ≤ collides (Collide ∷ oneHeard y (Single i 1) z)
+unfolding collides
+collide-first i y z = omega arith
 
 -- ---- one slot that goes through
 
@@ -191,6 +192,27 @@ unmarked c m i x y =
     let no = shut c (oneHeard x (Single i 1) y) m in
     record { no-success = no; urgent = rw no (one-queued false (placesOf c) x (Single i 1) y) }
 
+-- ---- one Single of 1 among Singles of more
+
+among-long : (c : Counters) (row : List Feedback) → openedOf c ≡ true → collides row ≡ 0 → shortSingles row ≡ 1
+    → (immediateOf c row ≡ true) × (placesAfter c row ≡ places (c .urgent) (c .long + longSlots row) (resolutionOf c (c .next)))
+unfolding immediateOf placesAfter
+among-long c row o n s =
+    let yes : immediateOf c row ≡ true = rw (o, n, s) in
+    let a = added true (placesOf c) row in
+    (yes, rw yes (places-are (queuedRow true (placesOf c) row) (a .urgent ∙ omega arith) (a .long) (a .resolution ∙ omega (arith, n))))
+
+crowd : (c : Counters) (row : List Feedback) → 2 ≤ shortSingles row → immediateOf c row ≡ false
+unfolding immediateOf
+crowd c row h = rw (ne-eqb (shortSingles row) 1 (λ e. omega arith), and-false)
+
+without-success : (c : Counters) (row : List Feedback) → (openedOf c ≡ false) ⊎ (1 ≤ collides row) ⊎ (2 ≤ shortSingles row)
+    → (immediateOf c row ≡ false) × (placesAfter c row .urgent ≡ c .urgent + shortSingles row)
+unfolding placesAfter
+without-success c row h =
+    let no = ⊎-elim (shut c row) (⊎-elim (collided c row) (crowd c row)) h in
+    (no, rw no (added false (placesOf c) row .urgent))
+
 pub edges-any : EdgesAny
 edges-any =
     record {
@@ -205,8 +227,10 @@ edges-any =
       one-byte-more = λ k h. slots-are (48 * k + 1) (k + 1) (omega arith) (omega arith) (omega arith) (omega arith);
       no-bytes = refused 0 (fits-none 0 refl);
       too-many-bytes = λ bytes h. refused bytes (fits-over bytes h);
-      single-and-collide = λ c i x y z. two-places c x (Single i 1) y Collide z (λ e. omega arith);
-      collide-and-single = λ c i x y z. two-places c x Collide y (Single i 1) z (λ e. omega arith);
+      single-and-collide = λ c i x y z. two-places c x (Single i 1) y Collide z (collide-last i y z);
+      collide-and-single = λ c i x y z. two-places c x Collide y (Single i 1) z (collide-first i y z);
+      short-among-long = among-long;
+      no-success = without-success;
       resolve-then-single = λ c row others H.
           let (next, mark) = round c row others H in
           (next, unmarked (afterRows c (row ∷ others)) (rw next mark));

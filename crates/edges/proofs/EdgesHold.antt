@@ -5,11 +5,12 @@ use native.Mathlib.Omega.{arith}
 use lib.Count.{ones, onesIn}
 use Rattle.pattern.specs.Patterns.{those, sixOnes, patterns, placeOf, indexOf}
 use Rattle.minislot.specs.Reading.{readingOf}
-use Rattle.rows.specs.Row.{readings, firstNumber, feedbacks, weight}
+use Rattle.rows.specs.Row.{readings, firstNumber, feedbacks}
 use Rattle.minislot.proofs.Readings.{reads-1}
 use Rattle.message.specs.Message.{fitsMessage, ceiling, slotsFor, slotTotalOf}
 use Rattle.rules.specs.Calendars.{entriesWithin, someFree, calendarWithin}
 use Rattle.rules.specs.Limits.{groupsWithin, withinLimits}
+use Rattle.rules.specs.RowCounts.{shortSingles, collides}
 use Rattle.rules.specs.Queueing.{queuedRow, passes, immediateOf, placesAfter, stepOneOf}
 use Rattle.rules.specs.Turns.{turnOf}
 use Rattle.rules.specs.Falling.{fallen}
@@ -18,7 +19,7 @@ use Rattle.edges.specs.Edges.{Edges}
 use Rattle.edges.proofs.EdgesAnyHold.{edges-any}
 
 pub edges : Edges
-unfolding ones onesIn those sixOnes patterns placeOf indexOf readingOf readings firstNumber feedbacks weight
+unfolding ones onesIn those sixOnes patterns placeOf indexOf readingOf readings firstNumber feedbacks shortSingles collides
     fitsMessage ceiling slotsFor slotTotalOf groupsWithin entriesWithin someFree calendarWithin withinLimits queuedRow passes immediateOf placesAfter stepOneOf turnOf fallen
     listened heardNumberOf listenOf listenNumberOf listeningOf
 edges =

@@ -1,7 +1,7 @@
 -- Worked channels, by hand-checked numbers: a list of calls on three stations in two groups, and every answer. The table's answers and the
 -- plain channel's are each computed. Shown: immediate success; two stations that collide, resolve and are served; a long message preempted by an urgent one;
 -- a Collide beside a Single; every refusal that a sound channel can give but 7. A list with calendars: owned slots beside a request, an urgent place and an
--- immediate success. And a list on both records of a station. Assumes nothing.
+-- immediate success. A list on both records of a station. And one of short and long requests side by side. Assumes nothing.
 use mathlib.Core.Path.{_≡_, refl, _∙_}
 use mathlib.Core.List.{List, [], _∷_}
 use Prim.Native.Nat.{ℕ}
@@ -12,10 +12,11 @@ use lib.Count.{ones, onesIn}
 use Rattle.pattern.specs.Patterns.{patterns, those, sixOnes, wordOf, indexOf, placeOf}
 use Rattle.pattern.specs.Ones.{containsOnes}
 use Rattle.minislot.specs.Reading.{readingOf}
-use Rattle.rows.specs.Row.{readings, firstNumber, feedbacks, weight}
+use Rattle.rows.specs.Row.{readings, firstNumber, feedbacks}
 use Rattle.requests.specs.Together.{together}
 use Rattle.rules.specs.Calendars.{entriesWithin, someFree, calendarWithin}
 use Rattle.rules.specs.Limits.{groupsWithin, withinLimits}
+use Rattle.rules.specs.RowCounts.{shortSingles, collides}
 use Rattle.rules.specs.Queueing.{queuedRow, passes, immediateOf, placesAfter, stepOneOf}
 use Rattle.rules.specs.declared.Turn.the-variants.{Owned as OwnedTurn, Urgent as UrgentTurn, Long as LongTurn, Resolve as ResolveTurn, Open as OpenTurn}
 use Rattle.rules.specs.Turns.{turnOf}
@@ -85,7 +86,7 @@ plain = refl
 
 -- on the table and the wire: words, readings, soundness and all
 direct : channelAnswers (channelStartOf table 2 2 indexes .state) calls ≡ answers
-unfolding ones onesIn fitsMessage fitsShort slotsFor ceiling patterns those sixOnes wordOf indexOf placeOf containsOnes readingOf readings firstNumber feedbacks weight
+unfolding ones onesIn fitsMessage fitsShort slotsFor ceiling patterns those sixOnes wordOf indexOf placeOf containsOnes readingOf readings firstNumber feedbacks shortSingles collides
     together groupsWithin entriesWithin someFree calendarWithin withinLimits queuedRow passes immediateOf placesAfter stepOneOf turnOf fallen conditionWithin shortWithin longWithin recordsApart messagesWithin stationWithin landings outcomeBy settledIn actsOf actsBeside stepOf
     hearsItself requests requested sends moved heardSlotNumberOf slotNumberOf slotOf indexesDistinct recordsWithin sameCounters countersShared urgentSound longSound
     resolutionSound askedMinislot wireSound entriesOn ownersSound soundTable channelStartNumberOf channelStartOf channelOfferNumberOf channelOfferOf heardRow channelSlotNumberOf channelSlotOf
@@ -132,7 +133,7 @@ unfolding fitsMessage slotsFor ceiling recordOf
 streams-plain = refl
 
 streams-direct : channelAnswers (channelStartOf table 2 2 indexes .state) streams ≡ stream-answers
-unfolding ones onesIn fitsMessage fitsShort slotsFor ceiling patterns those sixOnes wordOf indexOf placeOf containsOnes readingOf readings firstNumber feedbacks weight
+unfolding ones onesIn fitsMessage fitsShort slotsFor ceiling patterns those sixOnes wordOf indexOf placeOf containsOnes readingOf readings firstNumber feedbacks shortSingles collides
     together groupsWithin entriesWithin someFree calendarWithin withinLimits queuedRow passes immediateOf placesAfter stepOneOf turnOf fallen conditionWithin shortWithin longWithin recordsApart messagesWithin stationWithin landings
     outcomeBy settledIn actsOf actsBeside stepOf hearsItself requests requested sends moved heardSlotNumberOf slotNumberOf slotOf indexesDistinct recordsWithin sameCounters countersShared urgentSound longSound
     resolutionSound askedMinislot wireSound entriesOn ownersSound soundTable channelStartNumberOf channelStartOf channelOfferNumberOf channelOfferOf heardRow channelSlotNumberOf channelSlotOf
@@ -176,7 +177,7 @@ unfolding fitsMessage slotsFor ceiling recordOf
 pairs-plain = refl
 
 pairs-direct : channelAnswers (channelStartOf table 2 2 indexes .state) pairs ≡ pair-answers
-unfolding ones onesIn fitsMessage fitsShort slotsFor ceiling patterns those sixOnes wordOf indexOf placeOf containsOnes readingOf readings firstNumber feedbacks weight
+unfolding ones onesIn fitsMessage fitsShort slotsFor ceiling patterns those sixOnes wordOf indexOf placeOf containsOnes readingOf readings firstNumber feedbacks shortSingles collides
     together groupsWithin entriesWithin someFree calendarWithin withinLimits queuedRow passes immediateOf placesAfter stepOneOf turnOf fallen conditionWithin shortWithin longWithin recordsApart messagesWithin stationWithin landings outcomeBy settledIn actsOf actsBeside stepOf
     hearsItself requests requested sends moved heardSlotNumberOf slotNumberOf slotOf indexesDistinct recordsWithin sameCounters countersShared urgentSound longSound
     resolutionSound askedMinislot wireSound entriesOn ownersSound soundTable channelStartNumberOf channelStartOf channelOfferNumberOf channelOfferOf heardRow channelSlotNumberOf channelSlotOf
@@ -185,3 +186,39 @@ pairs-direct = refl
 -- THE WORKED PAIR: the table and the wire, and the plain channel
 pub worked-pair : (channelAnswers (channelStartOf table 2 2 indexes .state) pairs ≡ pair-answers) × (plainAnswers start (plainStart start) pairs ≡ pair-answers)
 worked-pair = (pairs-direct, pairs-plain)
+
+-- ---- ONE SHORT REQUEST AMONG LONG ONES: the same three stations
+
+abbrev among : List Call
+among =
+    -- in an open slot of group 1 station 1 asks for one slot and sends it, station 2 asks for three beside it; heard again, the one is delivered and the three
+    -- are queued, so that the turn is long and two slots are delivered
+    Offer 7 48 ∷ Offer 9 100 ∷ slot 1 2 1 ∷ slot 1 1 1 ∷ slot 1 1 1 ∷ slot 1 1 1
+    -- the same of stations 1 and 3 while the long queue is served: the mark is no, and the one is queued
+    ∷ Offer 7 1 ∷ Offer 923 96 ∷ slot 1 1 2 ∷ slot 1 1 1 ∷ slot 1 1 1 ∷ slot 1 1 1 ∷ slot 1 1 1
+    -- two of one slot each in an open slot of group 2: both sent, so neither arrived, and both are queued
+    ∷ slot 1 1 1 ∷ slot 1 1 1 ∷ Offer 7 1 ∷ Offer 9 1 ∷ slot 1 2 1 ∷ slot 1 1 1 ∷ slot 1 1 1 ∷ slot 1 1 1 ∷ slot 1 1 1
+    ∷ []
+
+abbrev among-answers : List Answer
+among-answers =
+    Taken 1 ∷ Taken 3 ∷ Went OpenTurn 1 7 1 0 ∷ Went OpenTurn 0 0 0 0 ∷ Went LongTurn 1 9 1 2 ∷ Went LongTurn 1 9 2 1
+    ∷ Taken 1 ∷ Taken 2 ∷ Went LongTurn 1 9 3 1 ∷ Went OpenTurn 0 0 0 0 ∷ Went UrgentTurn 1 7 1 1 ∷ Went LongTurn 1 923 1 1 ∷ Went LongTurn 1 923 2 1
+    ∷ Went OpenTurn 0 0 0 0 ∷ Went OpenTurn 0 0 0 0 ∷ Taken 1 ∷ Taken 1 ∷ Went OpenTurn 2 0 0 0 ∷ Went OpenTurn 0 0 0 0 ∷ Went UrgentTurn 1 7 1 1
+    ∷ Went UrgentTurn 1 9 1 1 ∷ Went OpenTurn 0 0 0 0
+    ∷ []
+
+among-plain : plainAnswers start (plainStart start) among ≡ among-answers
+unfolding fitsMessage slotsFor ceiling recordOf
+among-plain = refl
+
+among-direct : channelAnswers (channelStartOf table 2 2 indexes .state) among ≡ among-answers
+unfolding ones onesIn fitsMessage fitsShort slotsFor ceiling patterns those sixOnes wordOf indexOf placeOf containsOnes readingOf readings firstNumber feedbacks shortSingles collides
+    together groupsWithin entriesWithin someFree calendarWithin withinLimits queuedRow passes immediateOf placesAfter stepOneOf turnOf fallen conditionWithin shortWithin longWithin recordsApart messagesWithin stationWithin landings outcomeBy settledIn actsOf actsBeside stepOf
+    hearsItself requests requested sends moved heardSlotNumberOf slotNumberOf slotOf indexesDistinct recordsWithin sameCounters countersShared urgentSound longSound
+    resolutionSound askedMinislot wireSound entriesOn ownersSound soundTable channelStartNumberOf channelStartOf channelOfferNumberOf channelOfferOf heardRow channelSlotNumberOf channelSlotOf
+among-direct = refl
+
+-- THE WORKED ROWS of short and long requests: the table and the wire, and the plain channel
+pub worked-among : (channelAnswers (channelStartOf table 2 2 indexes .state) among ≡ among-answers) × (plainAnswers start (plainStart start) among ≡ among-answers)
+worked-among = (among-direct, among-plain)

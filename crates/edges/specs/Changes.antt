@@ -1,13 +1,12 @@
 -- How one slot changes each counter, by the row's feedback and the turn: the law that a listener's user goes by. Assumes nothing.
 use mathlib.Core.Path.{_≡_}
 use mathlib.Core.Bool.{Bool, false, cond}
-use mathlib.Core.List.{List, [], _∷_}
+use mathlib.Core.List.{List}
 use Prim.Native.Nat.{ℕ, _+_, _-_}
-use lib.Dec.{eqb}
 use lib.ListN.{getD}
 use Rattle.minislot.specs.declared.Feedback.{Feedback}
-use Rattle.minislot.specs.declared.Feedback.the-variants.{Empty, Single, Collide}
 use Rattle.rules.specs.declared.Counters.{Counters}
+use Rattle.rules.specs.RowCounts.{shortSingles, longSlots, collides}
 use Rattle.rules.specs.Queueing.{immediateOf, placesAfter}
 use Rattle.rules.specs.declared.Turn.{Turn}
 use Rattle.rules.specs.declared.Turn.the-variants.{Owned as OwnedTurn, Urgent as UrgentTurn, Long as LongTurn}
@@ -15,25 +14,6 @@ use Rattle.rules.specs.declared.Turn.the-variants.{Resolve as ResolveTurn, Open
 use Rattle.rules.specs.Calendars.{ownerOf, positionAfter}
 use Rattle.rules.specs.Turns.{turnOf, isOpen}
 use Rattle.rules.specs.Falling.{fallen, following}
-
--- what a row adds: its Singles of count 1, the slots of its other Singles, its Collides
-unfoldable pub shortSingles : List Feedback → ℕ
-shortSingles [] = 0
-shortSingles (Empty ∷ row) = shortSingles row
-shortSingles (Single i c ∷ row) = cond (eqb c 1) 1 0 + shortSingles row
-shortSingles (Collide ∷ row) = shortSingles row
-
-unfoldable pub longSlots : List Feedback → ℕ
-longSlots [] = 0
-longSlots (Empty ∷ row) = longSlots row
-longSlots (Single i c ∷ row) = cond (eqb c 1) 0 c + longSlots row
-longSlots (Collide ∷ row) = longSlots row
-
-unfoldable pub collides : List Feedback → ℕ
-collides [] = 0
-collides (Empty ∷ row) = collides row
-collides (Single i c ∷ row) = collides row
-collides (Collide ∷ row) = 1 + collides row
 
 -- what a turn takes: 1 from the queue that it serves; an owned slot serves none
 abbrev pub urgentServed : Turn → ℕ

@@ -1,4 +1,5 @@
--- The edges that the paper marks P, as one list: a line of the paper to a field, and each line that is general in its general form too.
+-- The edges that the paper marks P, as one list: a line of the paper to a field, and each line that is general in its general form too;
+-- the five rows end as paper 02, T-05 has them.
 -- `edges` of proofs/EdgesHold.antt proves them. Assumes nothing.
 use mathlib.Core.Path.{_≡_}
 use mathlib.Core.List.{List, [], _∷_}
@@ -71,8 +72,8 @@ pub record Edges : Type 0 where
   -- the five rows of the example, from the start with m = 2 and n = 1
   pub five-rows :
       linesOf (startCounters 2 1) (two 0 0 0 0 ∷ two 63 1 95 3 ∷ two 127 3 0 0 ∷ two 111 1 119 2 ∷ two 0 0 0 0 ∷ [])
-      ≡ line (Went OpenTurn) 0 0 0 ∷ line (Went UrgentTurn) 0 3 0 ∷ line (Went LongTurn) 0 2 0 ∷ line (Went UrgentTurn) 0 4 0
-      ∷ line (Went LongTurn) 0 3 0 ∷ []
+      ≡ line (Went OpenTurn) 0 0 0 ∷ line (Went LongTurn) 0 2 0 ∷ line (Went LongTurn) 0 1 0 ∷ line (Went UrgentTurn) 0 3 0
+      ∷ line (Went LongTurn) 0 2 0 ∷ []
   -- open slot, one Single of 1 and one Collide: H 1, RQ 1 after step 1, in either order
   pub single-and-collide : placesAfter (startCounters 2 1) (Single 0 1 ∷ Collide ∷ []) ≡ places 1 0 1
   pub collide-and-single : placesAfter (startCounters 2 1) (Collide ∷ Single 0 1 ∷ []) ≡ places 1 0 1

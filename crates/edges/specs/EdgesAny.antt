@@ -3,6 +3,7 @@
 use mathlib.Core.Path.{_≡_}
 use mathlib.Core.Bool.{Bool, true, false, _&&_}
 use mathlib.Core.List.{List, [], _∷_, _++_}
+use mathlib.Core.Logic.{_⊎_}
 use Prim.Native.Nat.{ℕ, _+_, _*_, _≤_, _<_}
 use lib.Count.{ones}
 use lib.ListN.{length, replicate}
@@ -19,7 +20,8 @@ use Rattle.rules.specs.declared.Places.{Places}
 use Rattle.rules.specs.declared.ListenAnswer.{ListenAnswer}
 use Rattle.rules.specs.declared.ListenAnswer.the-variants.{Went, Refused as RefusedRow}
 use Rattle.rules.specs.Limits.{withinLimits}
-use Rattle.rules.specs.Queueing.{immediateOf, placesAfter}
+use Rattle.rules.specs.RowCounts.{shortSingles, longSlots, collides}
+use Rattle.rules.specs.Queueing.{immediateOf, openedOf, placesAfter}
 use Rattle.rules.specs.declared.Turn.the-variants.{Resolve as ResolveTurn}
 use Rattle.rules.specs.Listening.{listenOf}
 use Rattle.edges.specs.Changes.{resolutionOf}
@@ -77,12 +79,18 @@ pub record EdgesAny : Type 0 where
   pub one-byte-more : (k : ℕ) → k < 255 → slotTotalOf (48 * k + 1) ≡ Slots (k + 1)
   pub no-bytes : slotTotalOf 0 ≡ RefusedMessage 10
   pub too-many-bytes : (bytes : ℕ) → 12240 < bytes → slotTotalOf bytes ≡ RefusedMessage 10
-  -- one Single of 1 and one Collide, in any two minislots and either order: H and RQ grow by 1 in step 1. The weight is 3, so it is the
-  -- same in an open slot as in any other
+  -- one Single of 1 and one Collide, in any two minislots and either order: H and RQ grow by 1 in step 1, in an open slot as in any other
   pub single-and-collide : (c : Counters) (i x y z : ℕ)
       → placesAfter c (twoHeard x (Single i 1) y Collide z) ≡ places (c .urgent + 1) (c .long) (resolutionOf c (c .next) + 1)
   pub collide-and-single : (c : Counters) (i x y z : ℕ)
       → placesAfter c (twoHeard x Collide y (Single i 1) z) ≡ places (c .urgent + 1) (c .long) (resolutionOf c (c .next) + 1)
+  -- one Single of 1 among Singles of more, however many, and no Collide, after an open slot (paper 02, T-05): the one is immediate
+  -- success, and the others' slots join the long queue
+  pub short-among-long : (c : Counters) (row : List Feedback) → openedOf c ≡ true → collides row ≡ 0 → shortSingles row ≡ 1
+      → (immediateOf c row ≡ true) × (placesAfter c row ≡ places (c .urgent) (c .long + longSlots row) (resolutionOf c (c .next)))
+  -- two Singles of 1 or more, or a Collide, or no open slot: no immediate success, and each Single of 1 joins the urgent queue
+  pub no-success : (c : Counters) (row : List Feedback) → (openedOf c ≡ false) ⊎ (1 ≤ collides row) ⊎ (2 ≤ shortSingles row)
+      → (immediateOf c row ≡ false) × (placesAfter c row .urgent ≡ c .urgent + shortSingles row)
   -- resolve slot, then a lone Single of 1: once the other groups have had their slots the group is next again, and a lone Single of 1 in
   -- any minislot of its row is no immediate success: H grows by 1
   pub resolve-then-single : (c : Counters) (row : List Feedback) (others : List (List Feedback)) → ResolveRound c row others

@@ -13,7 +13,7 @@ use turns::turn;
 ghost use mathlib.Core.Path.{_≡_};
 ghost use mathlib.Core.Bool.{true};
 ghost use Rattle.rules.specs.Limits.{withinLimits};
-ghost use Rattle.rules.specs.Hearing.{feedbackOf, ReadRow};
+ghost use Rattle.rules.specs.Hearing.{feedbackOf};
 ghost use Rattle.rules.specs.Listening.{listeningOf, listenOf, refusedListening};
 ghost use Rattle.rules.specs.Recorded.{listeningAtOf};
 ghost use Rattle.rules.specs.Numbers.{listenTold};
@@ -30,7 +30,7 @@ fn refused(c: Counters, number: u8) -> Listened
 
 // Steps 1 to 5 for a row that was heard. 7: a counter would pass its limit in step 1.
 fn listen_row(c: Counters, row: RowReading) -> Listened
-    requires { ⌜ (withinLimits c ≡ true) × ReadRow (c .minislots) row ⌝ }
+    requires { ⌜ withinLimits c ≡ true ⌝ }
     ensures { λ r. ⌜ r ≡ listenOf c (feedbackOf (c .minislots) row) ⌝ }
 {
     let one = step_one(c, row);

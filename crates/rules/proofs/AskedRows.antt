@@ -1,13 +1,13 @@
--- The row that the records asked there make is the row of the plain channel's asking messages. Assumes nothing.
+-- The row that the records asked there make is the row of the plain channel's asking messages, and its success is immediate on both sides alike. Assumes
+-- nothing.
 use mathlib.Core.Path.{_≡_, refl, sym, ap, _∙_}
-use mathlib.Core.Bool.{Bool, true, false}
+use mathlib.Core.Bool.{Bool, true, false, cond, _&&_}
 use mathlib.Core.List.{List, [], _∷_, map}
 use Prim.Native.Nat.{ℕ, zero, suc, _+_, _-_, _≤_}
 use native.Mathlib.Omega.{arith}
 use lib.ListN.{length}
 use Rattle.rules.proofs.QueueViews.{place-map}
 use Rattle.rules.proofs.Census.{hearing-eq, gather-of}
-use Rattle.rows.specs.Row.{weight}
 use Rattle.minislot.specs.declared.Feedback.{Feedback}
 use Rattle.rules.proofs.Clauses.{read}
 use Rattle.rules.proofs.Relation.{Agrees, askedOf}
@@ -16,9 +16,12 @@ use Rattle.rules.proofs.Views.{Sender, senderAt, requestFrom, seen, atF
 use Rattle.rules.specs.Calls.{Start}
 use Rattle.listlaws.specs.Lists.{keepIf, onlyIf}
 use Rattle.rules.specs.Messages.{Message, ofBy, of, recordOf}
-use Rattle.rules.specs.Plain.{Plain, plainWeight}
+use Rattle.rules.specs.RowCounts.{shortSingles, collides}
+use Rattle.rules.specs.Queueing.{immediate}
+use Rattle.rules.specs.Plain.{Group, Plain, noneMet, loneShort, justOne, plainSuccess}
 use Rattle.rules.specs.StationLimits.{Condition, Free, Fresh, Asked, Resolving, Urgent, Long}
 use lib.Dec.{eqb}
+use borrow.Author.Tests.{ne-eqb}
 
 pub onlyIf-nil {ℓ} : {A : Type ℓ} (b : Bool) → onlyIf {A = A} b [] ≡ []
 onlyIf-nil true = refl
@@ -92,10 +95,32 @@ row-eq S p condition message outside agrees g =
     ap (map requestFrom) (agrees k .asking g i) ∙ calls S p g k (message k) (condition k) (agrees k) i
     ∙ ap (λ (j : ℕ). askedSender g j k (condition k)) (let e = up-add i 1 in omega arith))
 
--- the weight heard is the weight of the senders
-pub weight-eq : (ix : ℕ → ℕ) (l : List (List Message)) → weight (map (read ix) l) ≡ plainWeight l
-unfolding weight
-weight-eq ix [] = refl
-weight-eq ix ([] ∷ l) = omega (arith, weight-eq ix l)
-weight-eq ix ((x ∷ []) ∷ l) = ap (λ (n : ℕ). 1 + n) (weight-eq ix l)
-weight-eq ix ((x ∷ y ∷ z) ∷ l) = ap (λ (n : ℕ). 2 + n) (weight-eq ix l)
+-- success is immediate by what is heard where it is by the messages asking: Collides are minislots where messages met, Singles of count 1 are lone messages
+-- of one slot
+none-collide : (ix : ℕ → ℕ) (l : List (List Message)) → eqb (collides (map (read ix) l)) 0 ≡ noneMet l
+unfolding collides
+none-collide ix [] = refl
+none-collide ix ([] ∷ l) = none-collide ix l
+none-collide ix ((x ∷ []) ∷ l) = none-collide ix l
+none-collide ix ((x ∷ y ∷ z) ∷ l) = ne-eqb (1 + collides (map (read ix) l)) 0 (λ e. omega arith)
+
+short-count : (ix : ℕ → ℕ) (l : List (List Message)) → shortSingles (map (read ix) l) ≡ length (loneShort l)
+unfolding shortSingles
+short-count ix [] = refl
+short-count ix ([] ∷ l) = short-count ix l
+short-count ix ((x ∷ []) ∷ l) = go (eqb (x .slots) 1) (short-count ix l)
+  where
+    go : (b : Bool) → shortSingles (map (read ix) l) ≡ length (loneShort l) → cond b 1 0 + shortSingles (map (read ix) l) ≡ length (keepIf b x (loneShort l))
+    go true ih = omega (arith, ih)
+    go false ih = omega (arith, ih)
+short-count ix ((x ∷ y ∷ z) ∷ l) = short-count ix l
+
+one-just : (l : List Message) → eqb (length l) 1 ≡ justOne l
+one-just [] = refl
+one-just (x ∷ []) = refl
+one-just (x ∷ y ∷ l) = ne-eqb (length (x ∷ y ∷ l)) 1 (λ e. omega arith)
+
+pub immediate-eq : (ix : ℕ → ℕ) (G : Group) → immediate (G .opened) (map (read ix) (G .asking)) ≡ plainSuccess G
+immediate-eq ix G =
+    ap (λ (b : Bool). G .opened && b && eqb (shortSingles (map (read ix) (G .asking))) 1) (none-collide ix (G .asking))
+    ∙ ap (λ (b : Bool). G .opened && noneMet (G .asking) && b) (ap (λ (n : ℕ). eqb n 1) (short-count ix (G .asking)) ∙ one-just (loneShort (G .asking)))

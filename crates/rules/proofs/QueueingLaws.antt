@@ -1,9 +1,10 @@
--- Step 1's sums only grow, so testing the limits once after the row is testing them at each minislot; and what the count of step 1 says.
+-- Step 1's sums only grow, so testing the limits once after the row is testing them at each minislot; what the count of step 1 says; and
+-- what a row adds to each queue, by its Singles of count 1, the slots of its others and its Collides.
 -- Assumes nothing.
 use mathlib.Core.Path.{_≡_, refl, sym}
 use mathlib.Core.Bool.{Bool, true, false, not, _||_, cond}
 use mathlib.Core.List.{List, [], _∷_}
-use Prim.Native.Nat.{ℕ, _≤_}
+use Prim.Native.Nat.{ℕ, _+_, _≤_}
 use native.Mathlib.Omega.{arith}
 use lib.Dec.{ltb, eqb}
 use borrow.Author.Tests.{lt-ltb, ltb-true}
@@ -11,6 +12,7 @@ use Rattle.minislot.specs.declared.Feedback.{Feedback}
 use Rattle.minislot.specs.declared.Feedback.the-variants.{Empty, Single, Collide}
 use Rattle.rules.specs.declared.Counters.{Counters}
 use Rattle.rules.specs.declared.Places.{Places}
+use Rattle.rules.specs.RowCounts.{shortSingles, longSlots, collides}
 use Rattle.rules.specs.Queueing.{queuedSingle, queued, queuedRow, passes, placesAfter, stepOneOf}
 
 -- every length of p is at most that of r
@@ -106,3 +108,32 @@ fits-cond c row x y = go (passes (placesAfter c row))
 pub after-is : (c : Counters) (row : List Feedback) → stepOneOf c row .after ≡ placesAfter c row
 unfolding stepOneOf
 after-is c row = refl
+
+-- WHAT A ROW ADDS to each queue
+pub record Added (b : Bool) (p : Places) (row : List Feedback) : Type 0 where
+  pub urgent : queuedRow b p row .urgent ≡ p .urgent + cond b 0 (shortSingles row)
+  pub long : queuedRow b p row .long ≡ p .long + longSlots row
+  pub resolution : queuedRow b p row .resolution ≡ p .resolution + collides row
+
+pub added : (b : Bool) (p : Places) (row : List Feedback) → Added b p row
+unfolding queuedRow shortSingles longSlots collides
+added true p [] = record { urgent = omega arith; long = omega arith; resolution = omega arith }
+added false p [] = record { urgent = omega arith; long = omega arith; resolution = omega arith }
+added b p (Empty ∷ row) = let a = added b p row in record { urgent = a .urgent; long = a .long; resolution = a .resolution }
+added b p (Single i c ∷ row) =
+    let a = go b (eqb c 1) (added b (queuedSingle b (eqb c 1) c p) row) in
+    record { urgent = a .urgent; long = a .long; resolution = a .resolution }
+  where
+    go : (b o : Bool) → Added b (queuedSingle b o c p) row
+        → record {
+          urgent : queuedRow b (queuedSingle b o c p) row .urgent ≡ p .urgent + cond b 0 (cond o 1 0 + shortSingles row);
+          long : queuedRow b (queuedSingle b o c p) row .long ≡ p .long + (cond o 0 c + longSlots row);
+          resolution : queuedRow b (queuedSingle b o c p) row .resolution ≡ p .resolution + collides row;
+        }
+    go true true a = record { urgent = a .urgent; long = omega (arith, a .long); resolution = a .resolution }
+    go false true a = record { urgent = omega (arith, a .urgent); long = omega (arith, a .long); resolution = a .resolution }
+    go true false a = record { urgent = omega (arith, a .urgent); long = omega (arith, a .long); resolution = a .resolution }
+    go false false a = record { urgent = omega (arith, a .urgent); long = omega (arith, a .long); resolution = a .resolution }
+added b p (Collide ∷ row) =
+    let a = added b (queued b p Collide) row in
+    record { urgent = a .urgent; long = a .long; resolution = omega (arith, a .resolution) }

@@ -1,5 +1,5 @@
 -- What holds of a row that was read (specs/Hearing), from the words and counts that it was read of. Assumes nothing.
-use mathlib.Core.Path.{_≡_, refl, ap, sym, _∙_}
+use mathlib.Core.Path.{_≡_, refl, sym, _∙_}
 use mathlib.Core.Bool.{Bool, true, false, cond}
 use mathlib.Core.List.{List, [], _∷_}
 use Prim.Native.Nat.{ℕ, zero, suc, _+_, _≤_}
@@ -12,9 +12,9 @@ use Rattle.minislot.specs.declared.Feedback.the-variants.{Empty}
 use Rattle.minislot.specs.declared.Reading.{Reading}
 use Rattle.minislot.specs.declared.Reading.the-variants.{Heard, Refused}
 use Rattle.minislot.specs.Reading.{readingOf}
-use Rattle.rows.specs.Row.{readings, feedbacks, firstNumber, weight, hasMinislots, rowOf}
+use Rattle.rows.specs.Row.{readings, feedbacks, firstNumber, hasMinislots, rowOf}
 use Rattle.rows.proofs.Row.{row-tests}
-use Rattle.rows.proofs.Answers.{number-zero, number-short, number-whole, weight-heard, array-heard}
+use Rattle.rows.proofs.Answers.{number-zero, number-short, number-whole, array-heard}
 use Rattle.rules.specs.Hearing.{Counted, feedbackOf, ReadRow}
 
 -- every Single that is read counts one slot or more
@@ -58,11 +58,7 @@ module _ (m : ℕ) (words counts : List ℕ) (none : rowOf m words counts .numbe
   feedback-is = array-heard m words counts whole none-refused
 
   pub read-row : ReadRow m (rowOf m words counts)
-  read-row =
-      record {
-        weighed = weight-heard m words counts whole none-refused ∙ ap weight (sym feedback-is);
-        counted = λ k. rw feedback-is (counted-row words counts k);
-      }
+  read-row = record { counted = λ k. rw feedback-is (counted-row words counts k) }
 
 -- a row from the middle of a recording that is not short lies inside it
 pub row-inside : (m start : ℕ) (words counts : List ℕ)

@@ -7,7 +7,6 @@ use Prim.Native.Nat.{ℕ, zero, suc, _+_}
 use lib.Dec.{eqb}
 use lib.ListN.{length, getD}
 use Rattle.minislot.specs.declared.Feedback.{Feedback}
-use Rattle.rows.specs.Row.{weight}
 use Rattle.message.specs.Message.{fitsMessage, fitsShort, slotsFor}
 use Rattle.rules.specs.declared.Places.{Places}
 use Rattle.listlaws.specs.Lists.{onlyIf}
@@ -143,7 +142,7 @@ abbrev pub tablePlaces : Table → Places
 tablePlaces t = record { urgent = t .h; long = t .n; resolution = t .rq (t .next) }
 
 abbrev pub tableSuccess : Table → List Feedback → Bool
-tableSuccess t heard = immediate (t .opened (t .next)) (weight heard)
+tableSuccess t heard = immediate (t .opened (t .next)) heard
 
 -- whether a record's message is held back if it is fresh: a long one, by a fresh short one of its station
 abbrev pub tableHeld : Table → ℕ → Bool

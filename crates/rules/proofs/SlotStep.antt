@@ -10,7 +10,7 @@ use mathlib.Core.Logic.{_≢_}
 use lib.Dec.{leb, ltb, eqb}
 use lib.ListN.{length, length-append, length-map}
 use Rattle.rules.proofs.Newcomers.{row-lengths}
-use Rattle.rules.proofs.AskedRows.{row-eq, weight-eq}
+use Rattle.rules.proofs.AskedRows.{row-eq, immediate-eq}
 use Rattle.rules.proofs.SettleViews.{settle-fresh}
 use Rattle.rules.proofs.Records.{holder, isLongRecord, holder-short, holder-long, kind-short, kind-long, holder-of}
 use Rattle.rules.proofs.QueueViews.{shifted-at}
@@ -251,7 +251,7 @@ module _ (S : Start) (p : Plain) (t : Table) (R : Same S p t) where
   counts-eq = rw (R .next, R .h, R .n, R .rq (p .next))
 
   success-eq : tableSuccess t (tableRow S t) ≡ plainSuccess (p .group (p .next))
-  success-eq = rw (heard-eq, weight-eq (indexOf S) (p .group (p .next) .asking), R .next, R .opened (p .next))
+  success-eq = rw (heard-eq, R .next, R .opened (p .next)) (immediate-eq (indexOf S) (p .group (p .next)))
 
   -- who is held back, and places within their queue
   held-eq : (k : ℕ) → tableHeld t k ≡ heldIn (p .fresh) k

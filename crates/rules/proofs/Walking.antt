@@ -16,7 +16,7 @@ use Rattle.minislot.specs.declared.Feedback.{Feedback}
 use Rattle.minislot.specs.declared.Reading.{Reading}
 use Rattle.minislot.specs.declared.Reading.the-variants.{Heard, Refused}
 use Rattle.minislot.specs.Reading.{readingOf}
-use Rattle.rows.specs.Row.{readings, firstNumber, feedbacks, weight}
+use Rattle.rows.specs.Row.{readings, firstNumber, feedbacks}
 use Rattle.rules.specs.declared.Station.{Station}
 use Rattle.rules.specs.declared.Places.{Places}
 use Rattle.rules.specs.Calendars.{ownerOf}
@@ -145,7 +145,7 @@ module _ (S : Start) (t : Table) (gl : 1 ≤ t .next) (gh : t .next ≤ 8) (hear
   pub success-is : immediateOf (s .counters) heard ≡ tableSuccess t heard
   unfolding immediateOf
   success-is =
-      ap (λ (b : Bool). immediate b (weight heard)) (ap (λ (g : ℕ). getD (s .counters .opened) (g - 1) false) (a .next) ∙ a .mark (t .next) gl gh)
+      ap (λ (b : Bool). immediate b heard) (ap (λ (g : ℕ). getD (s .counters .opened) (g - 1) false) (a .next) ∙ a .mark (t .next) gl gh)
 
   pub queued-is : placesAfter (s .counters) heard ≡ tableQueued t heard
   unfolding placesAfter

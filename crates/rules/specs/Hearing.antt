@@ -1,6 +1,5 @@
 -- A row as it is heard: the words and the counts of the wire's minislots, and what a row's reading holds. How a row is read (each
 -- minislot's reading, the first refused one's number, the feedback) is minislot's. Assumes nothing.
-use mathlib.Core.Path.{_≡_}
 use mathlib.Core.List.{List, map}
 use Prim.Native.Nat.{ℕ, _≤_}
 use lib.ListN.{getD, take}
@@ -8,7 +7,7 @@ use Rattle.minislot.specs.declared.Minislot.{Minislot}
 use Rattle.minislot.specs.declared.Feedback.{Feedback}
 use Rattle.minislot.specs.declared.Feedback.the-variants.{Empty, Single, Collide}
 use Rattle.minislot.specs.declared.RowReading.{RowReading}
-use Rattle.rows.specs.Row.{weight, feedbackIn}
+use Rattle.rows.specs.Row.{feedbackIn}
 
 abbrev pub wordsOf : List Minislot → List ℕ
 wordsOf row = map (λ (s : Minislot). s .word) row
@@ -26,7 +25,6 @@ Counted Empty = Unit {0}
 Counted (Single i c) = 1 ≤ c
 Counted Collide = Unit {0}
 
--- what holds of a row of m minislots that was read: its weight is that of its feedback, and its Singles count one slot or more
+-- what holds of a row of m minislots that was read: its Singles count one slot or more
 pub record ReadRow (m : ℕ) (row : RowReading) : Type 0 where
-  pub weighed : row .weight ≡ weight (feedbackOf m row)
   pub counted : (k : ℕ) → Counted (getD (feedbackOf m row) k Empty)

@@ -1,5 +1,5 @@
--- THE PLAIN CHANNEL (paper 01, "The plain channel"; paper 02, T-02 and T-04): queues of messages and of segments, fed the start's m, n and
--- indexes and each call's arguments, nothing from table or wire. Assumes nothing.
+-- THE PLAIN CHANNEL (paper 01, "The plain channel"; paper 02, T-02, T-04 and T-05): queues of messages and of segments, fed the start's
+-- m, n and indexes and each call's arguments, nothing from table or wire. Assumes nothing.
 use mathlib.Core.Bool.{Bool, true, false, not, _&&_, _||_, cond}
 use mathlib.Core.List.{List, [], _∷_, _++_, map}
 use mathlib.Core.Option.{Option, none, some}
@@ -47,15 +47,29 @@ pub record Queues : Type 0 where
   pub resolution : List (List Message)
   pub history : List Segment
 
--- in step 1's test a lone message is a Single, more are a Collide
-abbrev pub plainWeight : List (List Message) → ℕ
-plainWeight [] = 0
-plainWeight ([] ∷ row) = plainWeight row
-plainWeight ((m ∷ []) ∷ row) = 1 + plainWeight row
-plainWeight ((m ∷ n ∷ l) ∷ row) = 2 + plainWeight row
+-- in step 1's test a lone message is a Single, more are a Collide: no minislot has two messages or more
+abbrev pub noneMet : List (List Message) → Bool
+noneMet [] = true
+noneMet ([] ∷ row) = noneMet row
+noneMet ((m ∷ []) ∷ row) = noneMet row
+noneMet ((m ∷ n ∷ l) ∷ row) = false
 
+-- the lone messages of one slot
+abbrev pub loneShort : List (List Message) → List Message
+loneShort [] = []
+loneShort ([] ∷ row) = loneShort row
+loneShort ((m ∷ []) ∷ row) = keepIf (eqb (m .slots) 1) m (loneShort row)
+loneShort ((m ∷ n ∷ l) ∷ row) = loneShort row
+
+-- exactly one of them
+abbrev pub justOne : List Message → Bool
+justOne [] = false
+justOne (m ∷ []) = true
+justOne (m ∷ n ∷ l) = false
+
+-- immediate success: the group's last slot was open, no messages met, and exactly one lone message has one slot
 abbrev pub plainSuccess : Group → Bool
-plainSuccess G = G .opened && eqb (plainWeight (G .asking)) 1
+plainSuccess G = G .opened && noneMet (G .asking) && justOne (loneShort (G .asking))
 
 -- a lone message: whether success is immediate, whether it has one slot. One slot: delivered on immediate success, else it joins the
 -- urgent queue; a longer one's segments join the long queue in order

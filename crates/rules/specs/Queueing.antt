@@ -1,5 +1,5 @@
--- Step 1, queueing (QDR): immediate success (from Open and the weight, which is minislot's), and the counters after each minislot (paper
--- 01, "One slot of group g", 1). Assumes nothing.
+-- Step 1, queueing (QDR): immediate success, and the counters after each minislot (paper 01, "One slot of group g", 1; paper 02, T-05).
+-- Assumes nothing.
 use mathlib.Core.Bool.{Bool, true, false, not, _&&_, _||_}
 use mathlib.Core.List.{List, foldl}
 use Prim.Native.Nat.{ℕ, _+_, _-_}
@@ -7,15 +7,18 @@ use lib.Dec.{ltb, eqb}
 use lib.ListN.{getD, take}
 use Rattle.minislot.specs.declared.Feedback.{Feedback}
 use Rattle.minislot.specs.declared.Feedback.the-variants.{Empty, Single, Collide}
-use Rattle.rows.specs.Row.{weight}
 use Rattle.rules.specs.declared.Counters.{Counters}
 use Rattle.rules.specs.declared.Places.{Places}
 use Rattle.rules.specs.declared.StepOne.{StepOne}
 use Rattle.rules.specs.Limits.{urgentLimit, longLimit, resolutionLimit}
+use Rattle.rules.specs.RowCounts.{shortSingles, collides}
 
--- a Single of count 1 is immediate success if the group is open and the weight is 1
-abbrev pub immediate : Bool → ℕ → Bool
-immediate opened w = opened && eqb w 1
+-- immediate success: the group's last slot was open, and the row heard of it has no Collide and exactly one Single of count 1. That one is
+-- delivered, however many Singles of higher counts stand beside it, which join the long queue as ever. Why this is right: on an open turn
+-- only requests of one slot send data, so where no two requests met and just one was of one slot, just one station sent (`open-slots`,
+-- crate sound_slots). A click is a Collide here too
+abbrev pub immediate : Bool → List Feedback → Bool
+immediate opened row = opened && eqb (collides row) 0 && eqb (shortSingles row) 1
 
 -- a Single: whether success would be immediate, whether its count is 1, and its count
 abbrev pub queuedSingle : Bool → Bool → ℕ → Places → Places
@@ -48,9 +51,9 @@ placesOf c = record { urgent = c .urgent; long = c .long; resolution = getD (c .
 abbrev pub openedOf : Counters → Bool
 openedOf c = getD (c .opened) (c .next - 1) false
 
--- immediate success of a row, decided from Open and the weight before anything is queued
+-- whether success is immediate, decided from Open and the whole row before anything is queued
 unfoldable pub immediateOf : Counters → List Feedback → Bool
-immediateOf c row = immediate (openedOf c) (weight row)
+immediateOf c row = immediate (openedOf c) row
 
 -- the lengths after step 1
 unfoldable pub placesAfter : Counters → List Feedback → Places

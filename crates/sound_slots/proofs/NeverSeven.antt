@@ -19,7 +19,7 @@ use Rattle.rules.specs.declared.WireRow.{WireRow}
 use Rattle.listlaws.specs.Lists.{each, eachPair, sumOf, onlyIf, gatherOf}
 use Rattle.rules.specs.Limits.{between, urgentLimit, longLimit, resolutionLimit}
 use Rattle.rules.specs.Queueing.{placesOf, immediateOf, placesAfter, passes, stepOneOf}
-use Rattle.edges.specs.Changes.{shortSingles, longSlots, collides}
+use Rattle.rules.specs.RowCounts.{shortSingles, longSlots, collides}
 use Rattle.rules.specs.declared.Condition.{Condition}
 use Rattle.rules.specs.declared.Condition.the-variants.{Free, Fresh, Asked, Resolving, Urgent, Long}
 use Rattle.rules.specs.StationLimits.{resolutionAt, conditionWithin, shortWithin, longWithin, isTotal}
@@ -47,7 +47,7 @@ use Rattle.listlaws.proofs.Totals.{total}
 use Rattle.places.proofs.Counting.{times, length-places}
 use Rattle.channel_rules.proofs.SoundLists.{AllWithin, long-parts, resolvings-inside, resolvings-times, stations-messages}
 use Rattle.channel_rules.proofs.SoundMeans.{all-in, sound-says}
-use Rattle.edges.proofs.ChangesHold.{added}
+use Rattle.rules.proofs.QueueingLaws.{added}
 use Rattle.sound_slots.proofs.ChannelLaws.{limits, startMade, conditionIn, records-within, rowHere, row-asked}
 
 -- ---- lists joined from at most one entry each

@@ -16,11 +16,9 @@ use Rattle.rules.specs.declared.StationSlot.{StationSlot}
 use Rattle.rules.specs.declared.Condition.{Condition}
 use Rattle.rules.specs.declared.Turn.{Turn}
 use Rattle.rules.specs.declared.Turn.the-variants.{Owned as OwnedTurn}
-use Rattle.rules.specs.declared.Answer.the-variants.{Went}
 use Rattle.listlaws.specs.Lists.{each, eachPair, onlyIf, gatherOf}
 use Rattle.rules.specs.Limits.{between}
 use Rattle.rules.specs.Hearing.{wordsOf, countsOf}
-use Rattle.rules.specs.Queueing.{stepOneOf}
 use Rattle.rules.specs.Turns.{turnOf}
 use Rattle.rules.specs.Serving.{sends}
 use Rattle.rules.specs.Outcome.{outcomeBy, outcomeOf}
@@ -28,16 +26,15 @@ use Rattle.rules.specs.Stepping.{isFresh, stays, actsOf, actsBeside, stepOf}
 use Rattle.rules.specs.StationCalls.{slotOf}
 use Rattle.channel_rules.specs.Soundness.{otherIndex, indexesDistinct, tableCounters, soundTable}
 use Rattle.channel_rules.specs.SoundMeaning.{stationAt}
-use Rattle.channel_rules.specs.ChannelCalls.{Channel, ChannelResult, DataSent, hasStations, refused, heardRow, feedbackHeard, slotsOf, slotsHeard, dataIn, dataSent, loneIndex, loneSegment, deliveredNow, channelSlotNumberOf, channelSlotOf}
+use Rattle.channel_rules.specs.ChannelCalls.{Channel, DataSent, heardRow, feedbackHeard, slotsOf, slotsHeard, dataIn, dataSent, loneIndex, loneSegment, deliveredNow, channelSlotOf}
 use Rattle.rules.proofs.SlotStep.{and-both}
 use Rattle.rules.proofs.LimitLaws.{calendar-in}
 use Rattle.rules.proofs.QueueingLaws.{fits-says}
-use Rattle.rules.proofs.Refusals.{through-only, test-passed}
 use Rattle.channel_rules.proofs.SoundTests.{sound-tests}
 use Rattle.channel_rules.proofs.SoundMeans.{not-eq, all-at, sound-says}
 use Rattle.sound_slots.specs.OwnedSlots.{segmentOf, OwnedSlotsHold}
 use Rattle.sound_slots.proofs.ChannelLaws.{limits, station-goes}
-use Rattle.sound_slots.proofs.Transmission.{some-stations}
+use Rattle.sound_slots.proofs.Passing.{some-stations, slot-passed}
 
 -- the stream of the stations with an index
 abbrev streamOf : ℕ → Station → List DataSent
@@ -107,35 +104,28 @@ unfolding indexesDistinct
 distinct-test ch e18 = sound-tests (ch .stations) (ch .wire) e18 .distinct
 
 pub owned-slots : OwnedSlotsHold
-unfolding channelSlotOf channelSlotNumberOf outcomeBy stepOneOf turnOf
+unfolding channelSlotOf outcomeBy turnOf
 owned-slots ch picks x e turn n i s d went =
     let c = tableCounters (ch .stations) in
-    let none =
-    through-only (λ (r : ChannelResult). r .answer ≡ Went turn n i s d) (channelSlotNumberOf ch picks) (refused ch) _
-    (λ k q. let z : _≡_ {A = ℕ} 0 1 = cc in absurd (omega arith)) went in
-    let (e14, after14) = test-passed (hasStations (ch .stations)) 14 _ refl none in
-    let (e18, after18) = test-passed (soundTable (ch .stations) (ch .wire)) 18 _ refl after14 in
-    let (e17, after17) = test-passed (eqb (length picks) (length (ch .stations))) 17 _ refl after18 in
-    let (e11, after11) = test-passed (each (λ (pick : ℕ). between 1 pick (c .minislots)) picks) 11 _ refl after17 in
-    let (e7, after7) = test-passed (stepOneOf c (feedbackHeard ch) .fits) 7 _ refl after11 in
-    let some = some-stations (ch .stations) e14 in
-    let is = sound-says (ch .stations) (ch .wire) e18 in
-    let cal = calendar-in c (limits (ch .stations) (ch .wire) some e18 .calendar) in
+    let passed = slot-passed ch picks turn n i s d went in
+    let some = some-stations (ch .stations) (passed .stations) in
+    let is = sound-says (ch .stations) (ch .wire) (passed .sound) in
+    let cal = calendar-in c (limits (ch .stations) (ch .wire) some (passed .sound) .calendar) in
     let has = is .owners (c .position) x (omega (arith, cal .position)) e in
-    let long : length picks ≡ length (ch .stations) = eqb-true (length picks) (length (ch .stations)) e17 in
-    let goes = station-goes (ch .stations) (ch .wire) some e18 (fits-says c (feedbackHeard ch) e7) in
+    let long = passed .picked in
+    let goes = station-goes (ch .stations) (ch .wire) some (passed .sound) (fits-says c (feedbackHeard ch) (passed .fits)) in
     let named : outcomeOf c (feedbackHeard ch) .turn ≡ OwnedTurn x = rw e in
     let streams =
-    sent-streams (outcomeOf c (feedbackHeard ch)) x named (wordsOf (heardRow ch)) (countsOf (heardRow ch)) (c .minislots) (ch .stations) picks long e11 goes
-    ∙ one-stream x (ch .stations) (distinct-test ch e18) (has .which) (has .there) (has .named) in
-    let told = rw none at went in
+    sent-streams (outcomeOf c (feedbackHeard ch)) x named (wordsOf (heardRow ch)) (countsOf (heardRow ch)) (c .minislots) (ch .stations) picks long (passed .within) goes
+    ∙ one-stream x (ch .stations) (distinct-test ch (passed .sound)) (has .which) (has .there) (has .named) in
+    let told = rw (passed .number) at went in
     record {
       named = (let z : outcomeOf c (feedbackHeard ch) .turn ≡ turn = cc in sym z) ∙ named;
       alone = (let z : length (dataSent (slotsHeard ch picks)) ≡ n = cc in sym z) ∙ ap length streams;
       owner = (let z : loneIndex (dataSent (slotsHeard ch picks)) ≡ i = cc in sym z) ∙ ap loneIndex streams;
       stream = (let z : loneSegment (dataSent (slotsHeard ch picks)) ≡ s = cc in sym z) ∙ ap loneSegment streams;
       no-message = λ k h.
-          ap (λ (r : StationSlot). segmentOf (r .answer)) (goes k h (getD picks k 0) (all-at (λ (pick : ℕ). between 1 pick (c .minislots)) 0 picks e11 k (omega arith)))
+          ap (λ (r : StationSlot). segmentOf (r .answer)) (goes k h (getD picks k 0) (all-at (λ (pick : ℕ). between 1 pick (c .minislots)) 0 picks (passed .within) k (omega arith)))
           ∙ step-segment (outcomeOf c (feedbackHeard ch)) x named (stationAt (ch .stations) k) (getD picks k 0);
       row-only =
           (let z : outcomeOf c (feedbackHeard ch) .delivered + deliveredNow (outcomeOf c (feedbackHeard ch) .turn) (length (dataSent (slotsHeard ch picks))) ≡ d = cc in sym z)

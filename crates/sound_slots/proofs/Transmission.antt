@@ -42,8 +42,7 @@ use Rattle.rules.specs.Serving.{moved}
 use Rattle.rules.specs.Outcome.{outcomeBy, outcomeOf}
 use Rattle.rules.specs.StationCalls.{slotNumberOf, slotOf, refusedSlot}
 use Rattle.channel_rules.specs.Soundness.{otherIndex, indexesDistinct, recordsWithin, tableCounters, soundTable}
-use Rattle.channel_rules.specs.ChannelCalls.{Channel, ChannelResult, blankRow, hasStations, refused, heardRow, slotsOf, requestIn, requestsIn, newRow, channelSlotNumberOf, channelSlotOf}
-use Rattle.rules.specs.declared.Answer.the-variants.{Went}
+use Rattle.channel_rules.specs.ChannelCalls.{Channel, blankRow, hasStations, heardRow, slotsOf, requestIn, requestsIn, newRow, channelSlotOf}
 use Rattle.channel_rules.specs.SoundMeaning.{stationAt, Sound}
 use Rattle.sound_slots.specs.RowAccount.{RowAccount, RowAccountHolds}
 use Rattle.rules.proofs.SlotStep.{and-both}
@@ -53,7 +52,8 @@ use Rattle.channel_rules.proofs.SoundMeans.{not-eq, sound-says}
 use Rattle.rules.proofs.Settled.{standsAlone, standsAfter, feedbackAt, settledBy, settledOf, requesting, conditionAfter, actedBy, besideBy, stationAfter, wentBy, step-is}
 use Rattle.rules.specs.declared.Acted.{Acted}
 use Rattle.rules.specs.Stepping.{requestMinislot, isFresh, stays, asker, requestTotal, stepOf}
-use Rattle.rules.proofs.Refusals.{through-only, test-passed}
+use Rattle.rules.proofs.Refusals.{test-passed}
+use Rattle.sound_slots.proofs.Passing.{some-stations, slot-passed}
 use Rattle.rules.proofs.Walking.{row-fits}
 
 -- ---- one station: who requests has a message of a slot or more, and keeps its total
@@ -259,9 +259,6 @@ account stations words counts picks e w =
         new-at (slotsOf words counts stations picks) 8 1 (j - 1) (omega arith)
         ∙ ap (λ (x : ℕ). together (map carries (requestsIn x (slotsOf words counts stations picks)))) (let z : 1 + (j - 1) ≡ j = omega arith in z)
 
-pub some-stations : (l : List Station) → hasStations l ≡ true → 1 ≤ length l
-some-stations l e = leb-true 1 (length l) (and-both (leb 1 (length l)) (leb (length l) 64) e .0)
-
 -- what the slot that went through leaves on the wire
 module _ (ch : Channel) (picks : List ℕ) (e14 : hasStations (ch .stations) ≡ true) (e18 : soundTable (ch .stations) (ch .wire) ≡ true) where
   says : Sound (ch .stations) (ch .wire)
@@ -283,11 +280,7 @@ module _ (ch : Channel) (picks : List ℕ) (e14 : hasStations (ch .stations) ≡
       (account (ch .stations) (wordsOf (heardRow ch)) (countsOf (heardRow ch)) picks (t .distinct) (t .within))
 
 pub row-account : RowAccountHolds
-unfolding channelSlotOf channelSlotNumberOf outcomeBy
+unfolding channelSlotOf outcomeBy
 row-account ch picks turn n i s d e =
-    let none =
-    through-only (λ (r : ChannelResult). r .answer ≡ Went turn n i s d) (channelSlotNumberOf ch picks) (refused ch) _
-    (λ k q. let z : _≡_ {A = ℕ} 0 1 = cc in absurd (omega arith)) e in
-    let (e14, after14) = test-passed (hasStations (ch .stations)) 14 _ refl none in
-    let (e18, _) = test-passed (soundTable (ch .stations) (ch .wire)) 18 _ refl after14 in
-    rw none (on-the-wire ch picks e14 e18)
+    let passed = slot-passed ch picks turn n i s d e in
+    rw (passed .number) (on-the-wire ch picks (passed .stations) (passed .sound))

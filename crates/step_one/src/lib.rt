@@ -2,13 +2,15 @@
 // fit. Each function is equal to its rule of crate `rules`.
 use counters::place_of;
 use counters::resolution_of;
+use minislot::MinislotFeedback;
 use minislot::RowReading;
 use queueing::queue_row;
 use rules::Counters;
 use rules::Places;
 use rules::StepOne;
 ghost use mathlib.Core.Path.{_≡_};
-ghost use Rattle.rows.specs.Row.{weight};
+ghost use lib.ListN.{take};
+ghost use Rattle.rows.specs.Row.{feedbackIn};
 ghost use Rattle.rules.specs.Hearing.{feedbackOf};
 ghost use Rattle.rules.specs.Queueing.{passes, placesOf, openedOf, immediate, stepOneOf};
 ghost use Rattle.queueing.specs.Bounds.{Within};
@@ -40,11 +42,28 @@ fn opened_of(c: Counters) -> bool
     if g < 8 { c.opened[g] } else { false }
 }
 
-// Whether a Single of count 1 is immediate success, from the mark and the row's weight.
-fn immediate_success(opened: bool, weight: u8) -> bool
-    ensures { λ r. ⌜ r ≡ immediate opened weight ⌝ }
+// Whether success is immediate, from the mark and the first m minislots of the row. What they bring is counted apart, as if all of it were
+// queued: no Collide, and exactly one Single of count 1.
+fn immediate_success(opened: bool, row: [MinislotFeedback; 8], m: u8) -> bool
+    ensures { λ r. ⌜ r ≡ immediate opened (take m (feedbackIn row)) ⌝ }
 {
-    if opened { weight == 1 } else { false }
+    if !opened {
+        return false;
+    }
+    let brought = queue_row(
+        false,
+        Places {
+            urgent: 0,
+            long: 0,
+            resolution: 0,
+        },
+        row,
+        m,
+    );
+    if brought.resolution != 0 {
+        return false;
+    }
+    brought.urgent == 1
 }
 
 // Whether a length passes its limit.
@@ -63,12 +82,11 @@ fn passes_limit(p: Places) -> bool
 // Step 1 for whoever keeps these counters, by a row that was read: whether success is immediate, the lengths before and after, and whether
 // they fit.
 pub fn step_one(c: Counters, row: RowReading) -> StepOne
-    requires { ⌜ row .weight ≡ weight (feedbackOf (c .minislots) row) ⌝ }
     ensures { λ r. ⌜ r ≡ stepOneOf c (feedbackOf (c .minislots) row) ⌝ }
 {
     let minislots = row.minislots;
     let before = places_of(c);
-    let success = immediate_success(opened_of(c), row.weight);
+    let success = immediate_success(opened_of(c), minislots, c.minislots);
     let after = queue_row(success, before, minislots, c.minislots);
     StepOne {
         success,

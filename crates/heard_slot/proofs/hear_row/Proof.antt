@@ -10,7 +10,7 @@ use Rattle.heard_slot.proofs.hear_row.Statement.{statement}
 use Rattle.heard_slot.proofs.hear_row.Tie as tie
 
 step-one-requires : tie.Need-step-one-requires
-step-one-requires c κs = c .before .before .before .pre .read .weighed
+step-one-requires c κs = search needs
 
 refused-slot-requires : tie.Need-refused-slot-requires
 refused-slot-requires c κs = search needs

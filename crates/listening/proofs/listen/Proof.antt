@@ -1,10 +1,6 @@
 -- `listen` gives 18, a row's number, or what the row heard leads to; and so it answers the paper's number and turn. Assumes nothing.
-use mathlib.Core.Path.{_≡_, _∙_, sym, ap, subst}
-use Rattle.minislot.specs.declared.RowReading.{RowReading}
-use Rattle.rules.specs.Hearing.{feedbackOf, ReadRow}
-use Rattle.rules.specs.Listening.{refusedListening, listenOf}
+use mathlib.Core.Path.{_∙_, sym}
 use Rattle.rules.proofs.ListeningLaws.{listening-18, listening-bad, listening-heard}
-use Rattle.rules.proofs.RowReads.{read-row}
 use Rattle.listening.proofs.Tells.{listens}
 use borrow.Author.Needs.{needs}
 use Rattle.listening.proofs.listen.Statement.{statement}
@@ -30,14 +26,7 @@ returns c =
     (c .refused .ensures ∙ rw e (listening-bad (a .c) words counts w (λ z. c .before .if2 .taken (rw e z))))
 
 listen-row-requires : tie.Need-listen-row-requires
-listen-row-requires c κs =
-    let a = c .before .before .before .before .before .before .before .args in
-    let words = a .words .now in
-    let counts = a .counts .now in
-    let e = c .before .before .read-row .ensures in (
-      sym (c .before .before .before .before .within .ensures) ∙ c .before .before .before .if1 .taken,
-      rw e (read-row (a .c .minislots) words counts (rw e at (c .if2 .left))),
-    )
+listen-row-requires c κs = sym (c .before .before .before .before .within .ensures) ∙ c .before .before .before .if1 .taken
 
 returns-2 : tie.Need-returns-2
 returns-2 c =

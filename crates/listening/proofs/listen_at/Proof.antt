@@ -1,13 +1,9 @@
 -- `listen_at` gives 18, a row's number, or what the row heard leads to; and so it answers the paper's number and turn. Assumes nothing.
-use mathlib.Core.Path.{_≡_, _∙_, sym, ap, subst}
+use mathlib.Core.Path.{_∙_, sym}
 use lib.ListN.{take, drop}
 use Rattle.rows.specs.Row.{rowAtOf}
 use Rattle.rules.specs.Recorded.{listeningAtOf}
-use Rattle.minislot.specs.declared.RowReading.{RowReading}
-use Rattle.rules.specs.Hearing.{feedbackOf, ReadRow}
-use Rattle.rules.specs.Listening.{refusedListening, listenOf}
 use Rattle.rules.proofs.ListeningLaws.{listening-18, listening-bad, listening-heard}
-use Rattle.rules.proofs.RowReads.{read-row}
 use Rattle.listening.proofs.Tells.{listens-at}
 use borrow.Author.Needs.{needs}
 use Rattle.listening.proofs.listen_at.Statement.{statement}
@@ -35,14 +31,7 @@ returns c =
 
 listen-row-requires : tie.Need-listen-row-requires
 unfolding rowAtOf listeningAtOf
-listen-row-requires c κs =
-    let a = c .before .before .before .before .before .before .before .args in
-    let words = take (a .c .minislots) (drop (a .start) (a .words .now)) in
-    let counts = take (a .c .minislots) (drop (a .start) (a .counts .now)) in
-    let e = c .before .before .read-row-at .ensures in (
-      sym (c .before .before .before .before .within .ensures) ∙ c .before .before .before .if1 .taken,
-      rw e (read-row (a .c .minislots) words counts (rw e at (c .if2 .left))),
-    )
+listen-row-requires c κs = sym (c .before .before .before .before .within .ensures) ∙ c .before .before .before .if1 .taken
 
 returns-2 : tie.Need-returns-2
 unfolding rowAtOf listeningAtOf

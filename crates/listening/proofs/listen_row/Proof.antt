@@ -13,7 +13,7 @@ use Rattle.listening.proofs.listen_row.Statement.{statement}
 use Rattle.listening.proofs.listen_row.Tie as tie
 
 step-one-requires : tie.Need-step-one-requires
-step-one-requires c κs = c .pre .1 .weighed
+step-one-requires c κs = search needs
 
 refused-requires : tie.Need-refused-requires
 refused-requires c κs = search needs
@@ -37,7 +37,7 @@ fall-requires c κs =
     let q = c .before .before .before .before .before .pre in
     let s = c .before .before .before .before .step-one .ensures in
     let row = feedbackOf (a .c .minislots) (a .row) in
-    let w = within-limits (a .c) (q .0) in
+    let w = within-limits (a .c) q in
     let fits = ap (λ (o : StepOne). o .fits) (sym s) ∙ not-false _ (c .before .before .if1 .left) in
     ((w .next .0, omega arith, calendar-in (a .c) (w .calendar) .position), rw (s, after-is (a .c) row) (fits-says (a .c) row fits))
 

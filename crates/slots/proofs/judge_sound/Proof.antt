@@ -3,7 +3,6 @@ use mathlib.Core.Path.{_≡_, sym, ap, subst, _∙_}
 use borrow.Author.Needs.{needs}
 use borrow.Author.Tests.{not-true, not-false}
 use Rattle.minislot.specs.declared.RowReading.{RowReading}
-use Rattle.rows.specs.Row.{weight}
 use Rattle.rules.specs.declared.Outcome.{Outcome}
 use Rattle.rules.specs.declared.StepOne.{StepOne}
 use Rattle.rules.specs.Hearing.{feedbackOf, ReadRow}
@@ -38,10 +37,7 @@ read-group-requires : tie.Need-read-group-requires
 read-group-requires c κs = search needs
 
 step-one-requires : tie.Need-step-one-requires
-step-one-requires c κs =
-    let a = c .before .before .before .before .before .args in
-    subst (λ (row : RowReading). row .weight ≡ weight (feedbackOf (a .c .minislots) row)) (sym (c .read-group .ensures))
-    (row-read (a .c) (a .n) (a .wire) (a .picks .now) (c .before .before .before .before .before .pre) .weighed)
+step-one-requires c κs = search needs
 
 refuse-slot-requires-3 : tie.Need-refuse-slot-requires-3
 refuse-slot-requires-3 c κs = search needs

@@ -28,7 +28,6 @@ returns c =
       c .before .before .immediate-success .ensures,
       c .before .before .before .opened-of .ensures,
       c .before .before .before .before .places-of .ensures .0,
-      c .before .before .before .before .before .before .pre,
     )
 
 pub step-one-spec : {M : Type 1} → statement M
