@@ -1,5 +1,6 @@
 -- The general forms of the edges that the paper marks P hold: readings and slot totals by their own laws; rows by induction on their Empty
--- minislots; a resolve slot's mark because the slots of the other groups leave it alone until the group is next again.
+-- minislots, or by what a row adds; a resolve slot's mark because the slots of the other groups leave it alone until the group is next
+-- again.
 -- Assumes nothing.
 use mathlib.Core.Path.{_≡_, refl, ap, _∙_, subst, sym}
 use mathlib.Core.Bool.{Bool, true, false, cond, and-false, and-eq-true-iff}
@@ -36,7 +37,7 @@ use Rattle.rules.specs.Listening.{listened, heardNumberOf, refusedListening, li
 use Rattle.edges.specs.Changes.{resolutionOf, markOf}
 use Rattle.edges.specs.EdgesAny.{places, oneHeard, twoHeard, afterRows, goesThrough, allGoThrough, ResolveRound, JoinsUrgent, EdgesAny}
 use Rattle.rules.proofs.LimitLaws.{within-limits, arrays-lengths}
-use Rattle.rules.proofs.QueueingLaws.{added}
+use Rattle.rules.proofs.QueueingLaws.{added, never-beside}
 use Rattle.edges.proofs.GroupRounds.{NextAfter, following-in, one-fewer, other}
 
 -- ---- readings and slot totals
@@ -77,7 +78,7 @@ places-are p a b c = rw (← a, ← b, ← c)
 -- beside a Collide there is no immediate success, whatever the mark
 collided : (c : Counters) (row : List Feedback) → 1 ≤ collides row → immediateOf c row ≡ false
 unfolding immediateOf
-collided c row h = rw (ne-eqb (collides row) 0 (λ e. omega arith), and-false)
+collided c row h = never-beside (openedOf c) row (λ e. omega arith)
 
 two-places : (c : Counters) (x : ℕ) (f : Feedback) (y : ℕ) (g : Feedback) (z : ℕ) → 1 ≤ collides (f ∷ oneHeard y g z)
     → placesAfter c (twoHeard x f y g z) ≡ queued false (queued false (placesOf c) f) g

@@ -1,5 +1,5 @@
 -- The edges that the paper marks P, where its line is general: the same for any word and count, any length, any group, any numbers of
--- minislots and groups, any index. A field of `Edges`. Assumes nothing.
+-- minislots and groups, any index; and when success is immediate, for any row (paper 02, T-05). A field of `Edges`. Assumes nothing.
 use mathlib.Core.Path.{_≡_}
 use mathlib.Core.Bool.{Bool, true, false, _&&_}
 use mathlib.Core.List.{List, [], _∷_, _++_}

@@ -1,19 +1,20 @@
--- Step 1's sums only grow, so testing the limits once after the row is testing them at each minislot; what the count of step 1 says; and
--- what a row adds to each queue, by its Singles of count 1, the slots of its others and its Collides.
+-- Step 1's sums only grow, so testing the limits once after the row is testing them at each minislot; what the count of step 1 says;
+-- what a row adds to each queue, by its Singles of count 1, the slots of its others and its Collides; and that success is never immediate
+-- beside a Collide.
 -- Assumes nothing.
 use mathlib.Core.Path.{_≡_, refl, sym}
-use mathlib.Core.Bool.{Bool, true, false, not, _||_, cond}
+use mathlib.Core.Bool.{Bool, true, false, not, _||_, cond, and-false}
 use mathlib.Core.List.{List, [], _∷_}
 use Prim.Native.Nat.{ℕ, _+_, _≤_}
 use native.Mathlib.Omega.{arith}
 use lib.Dec.{ltb, eqb}
-use borrow.Author.Tests.{lt-ltb, ltb-true}
+use borrow.Author.Tests.{lt-ltb, ltb-true, ne-eqb}
 use Rattle.minislot.specs.declared.Feedback.{Feedback}
 use Rattle.minislot.specs.declared.Feedback.the-variants.{Empty, Single, Collide}
 use Rattle.rules.specs.declared.Counters.{Counters}
 use Rattle.rules.specs.declared.Places.{Places}
 use Rattle.rules.specs.RowCounts.{shortSingles, longSlots, collides}
-use Rattle.rules.specs.Queueing.{queuedSingle, queued, queuedRow, passes, placesAfter, stepOneOf}
+use Rattle.rules.specs.Queueing.{immediate, queuedSingle, queued, queuedRow, passes, placesAfter, stepOneOf}
 
 -- every length of p is at most that of r
 pub record Grows (p r : Places) : Type 0 where
@@ -108,6 +109,10 @@ fits-cond c row x y = go (passes (placesAfter c row))
 pub after-is : (c : Counters) (row : List Feedback) → stepOneOf c row .after ≡ placesAfter c row
 unfolding stepOneOf
 after-is c row = refl
+
+-- beside a Collide success is not immediate, whatever the mark
+pub never-beside : (b : Bool) (row : List Feedback) → (collides row ≡ 0 → ⊥) → immediate b row ≡ false
+never-beside b row h = rw (ne-eqb (collides row) 0 h, and-false)
 
 -- WHAT A ROW ADDS to each queue
 pub record Added (b : Bool) (p : Places) (row : List Feedback) : Type 0 where

@@ -1,19 +1,18 @@
 -- `immediate_success` counts what the row brings apart, in queues that are empty before it: what then stands in the resolution queue are the
 -- row's Collides, in the urgent one its Singles of count 1. Assumes nothing.
 use mathlib.Core.Path.{_≡_, refl, sym, _∙_}
-use mathlib.Core.Bool.{Bool, true, false, not, and-false, false≢true}
+use mathlib.Core.Bool.{Bool, true, false, not, false≢true}
 use mathlib.Core.List.{List}
 use native.Mathlib.Omega.{arith}
 use lib.Dec.{eqb}
 use lib.ListN.{take}
-use borrow.Author.Tests.{ne-eqb}
 use borrow.Author.Needs.{needs}
 use Rattle.minislot.specs.declared.Feedback.{Feedback}
 use Rattle.rows.specs.Row.{feedbackIn}
 use Rattle.rules.specs.declared.Places.{Places}
 use Rattle.rules.specs.RowCounts.{shortSingles, collides}
 use Rattle.rules.specs.Queueing.{immediate, queuedRow}
-use Rattle.rules.proofs.QueueingLaws.{added}
+use Rattle.rules.proofs.QueueingLaws.{added, never-beside}
 use Rattle.step_one.proofs.immediate_success.Statement.{statement}
 use Rattle.step_one.proofs.immediate_success.Tie as tie
 
@@ -31,9 +30,6 @@ shut : (b : Bool) (row : List Feedback) → not b ≡ true → false ≡ immedia
 shut true row e = absurd (false≢true e)
 shut false row e = refl
 
-met : (b : Bool) (row : List Feedback) → (collides row ≡ 0 → ⊥) → false ≡ immediate b row
-met b row h = rw (ne-eqb (collides row) 0 h, and-false)
-
 counted : (b : Bool) (row : List Feedback) → not b ≡ false → collides row ≡ 0 → eqb (shortSingles row) 1 ≡ immediate b row
 counted true row e n = rw n
 counted false row e n = absurd (false≢true (sym e))
@@ -49,7 +45,7 @@ returns-2 c =
     let a = c .before .before .before .before .args in
     let row = take (a .m) (feedbackIn (a .row)) in
     let brought : c .before .before .queue-row .result .resolution ≡ collides row = rw (c .before .before .queue-row .ensures) (collides-are row) in
-    met (a .opened) row (λ e. omega (arith, brought, c .if2 .taken))
+    sym (never-beside (a .opened) row (λ e. omega (arith, brought, c .if2 .taken)))
 
 returns-3 : tie.Need-returns-3
 returns-3 c =
