@@ -6,14 +6,15 @@ plain channel of queues (plain.py).
   agree.py LISTS    so many
 
 After each call the answers, both records of each box, counters, calendar, position and wire must be the same, and the slots of all messages taken must be those
-delivered and those that wait. It stops at the first that is not so.
+delivered and those that wait; a held message is taken at its commit. It stops at the first that is not so, and at the end says how often each answer, each turn and
+each pair of conditions came.
 """
 import random
 import sys
 
 import channel
 import station
-from plain import FREE, Plain, Refusal
+from plain import FREE, LONG, SHORT, Plain, Refusal
 
 
 def answer_of(call, *arguments):
@@ -31,11 +32,14 @@ class Both:
         self.boxes = channel.channel_start(channel.EMPTY_TABLE.with_count(len(indexes)), m, n, indexes)
         self.taken = 0
 
-    def offer(self, index, size):
-        plain, boxes = answer_of(self.plain.offer, index, size), answer_of(channel.channel_offer, self.boxes, index, size)
-        if isinstance(plain, int):
+    def write(self, name, index, argument):
+        """An offer or a hold of so many bytes, or the commit or withdrawal of a record; answers what came of it, in a word or two."""
+        record = station.RECORDS[argument] if name in ("commit", "withdraw") else argument
+        plain, boxes = answer_of(getattr(self.plain, name), index, argument), answer_of(channel.channel_write, self.boxes, getattr(station, name), index, record)
+        if isinstance(plain, int) and name in ("offer", "commit"):
             self.taken += plain
         self.same(plain, self.kept(boxes))
+        return name if isinstance(plain, int) else "%s refused %d" % (name, plain[1])
 
     def slot(self, picks):
         position = self.plain.slots % 24
@@ -69,16 +73,20 @@ class Both:
 
 
 def rehearsed(chance):
-    """A list of calls: each turn that came, and each box's pair of conditions after each slot."""
+    """A list of calls: what came of each offer, hold, commit and withdrawal, each turn that came, and each box's pair of conditions after each slot."""
     stations, m, n = chance.choice((1, 2, 3, 4, 6, 9, 16)), chance.choice((2, 2, 3, 8)), chance.choice((1, 2, 3, 8))
     indexes = chance.sample(range(924), stations)
     both, seen = Both(m, n, indexes), []
     for _ in range(120):
         rate = chance.choice((0, 0, 0, 0, 0.5 / stations, 0.8))  # none, few, most boxes
+        release = chance.choice((0, 0, 0.5 / stations, 0.3))
         for index in [*indexes, 924]:
             for size in (chance.randint(0, 48), *chance.choices((chance.randint(49, 97), chance.randint(49, 300), 12240, 12241), (40, 8, 0.1, 2))):
                 if chance.random() < rate:
-                    both.offer(index, size)
+                    seen.append(both.write(chance.choice(("offer", "hold")), index, size))
+            for record in (SHORT, LONG):
+                if chance.random() < release:
+                    seen.append(both.write(chance.choice(("commit", "commit", "commit", "withdraw")), index, record))
         if chance.random() < 0.03:
             owner = chance.choice((*indexes, 924))
             both.calendar([chance.choice((owner, FREE, FREE)) if chance.random() < 0.9 else FREE for _ in range(24)])

@@ -6,7 +6,9 @@ the row that the wire has; the requests that the boxes answer make the new row. 
 """
 import copy
 
-from station import FREE, NOBODY, RECORDS, UNUSED, WORDS, Refusal, alone, blank, fits, nothing, offer, owned_text, owners_of, owning, put, put_record, read, slot
+from station import (
+    FREE, NOBODY, RECORDS, UNUSED, WORDS, Refusal, alone, blank, commit, fits, hold, nothing, offer, owned_text, owners_of, owning, put, put_record, read, slot, withdraw,
+)
 
 
 # ---- sound tables
@@ -96,11 +98,12 @@ def channel_start(ch, m, n, indexes):
     return Channel([blank(m, n, index) for index in indexes], silent())
 
 
-def channel_offer(ch, index, size):
+def channel_write(ch, call, index, argument):
+    """A box's own offer, hold, commit or withdrawal, on the box of this index."""
     ch.check()
     for k, box in enumerate(ch.boxes):
         if box["index"] == index:
-            total, after = offer(box, size)
+            total, after = call(box, argument)
             return total, ch.with_box(k, after)
     raise Refusal(16)
 
@@ -161,15 +164,35 @@ def begun(ch, m, n, indexes):
     return ch
 
 
-def offered(ch, index, size):
-    put("offer", index, size)
+def written(ch, call, index, argument, answer):
+    """An offer, a hold, a commit or a withdrawal; what it answers has this word before it."""
     try:
-        total, ch = channel_offer(ch, index, size)
-        put("taken", total)
+        total, ch = channel_write(ch, call, index, argument)
+        put(answer, total)
     except Refusal as refused:
         put("refused", refused)
     put_table(ch)
     return ch
+
+
+def offered(ch, index, size):
+    put("offer", index, size)
+    return written(ch, offer, index, size, "taken")
+
+
+def held(ch, index, size):
+    put("hold", index, size)
+    return written(ch, hold, index, size, "held")
+
+
+def committed(ch, index, name):
+    put("commit", index, RECORDS.index(name) + 1)
+    return written(ch, commit, index, name, "committed")
+
+
+def withdrawn(ch, index, name):
+    put("withdraw", index, RECORDS.index(name) + 1)
+    return written(ch, withdraw, index, name, "withdrawn")
 
 
 def slotted(ch, *picks):
@@ -542,6 +565,175 @@ def short_among_long():
             ch = slotted(ch, *picks)
 
 
+# ---- held messages
+
+def with_held():
+    """Nine boxes with a held message or two, beside a message in each condition of either record; two of them are on the wire."""
+    conditions = (
+        (("urgent", 1), ("held", 5)), (("held", 1), ("long", 1, 3, 3)), (("resolving", 1, 1, 1), ("held", 2)), (("held", 1), ("resolving", 1, 1, 2)),
+        (("held", 1), ("asked", 2, 1, 5)), (("held", 1), ("held", 255)), (("fresh", 1), ("held", 3)), (("held", 1), ("fresh", 2)), (("asked", 1, 2, 1), ("held", 4)),
+    )
+    ch = Channel([box_of(100 * k, *both) for k, both in enumerate(conditions, start=1)], silent())
+    return ch.with_minislot(1, 0, WORDS[500], 5).with_minislot(0, 1, WORDS[900], 1)
+
+
+HELD = ((100, "long"), (200, "short"), (300, "long"), (400, "short"), (500, "short"), (600, "short"), (600, "long"), (700, "long"), (800, "short"), (900, "long"))
+
+
+def holds():
+    """14, 16, 10, and 9 by the record that the length picks, each where later numbers would come; then a box whose two records are free holds a message in each."""
+    ch = base()
+    for index, size in ((50, 0), (50, 49), (50, 12241), (100, 0), (200, 12241), (500, 0), (600, 0), (600, 12241), (100, 48), (200, 49), (300, 1), (400, 12240), (500, 50)):
+        held(ch, index, size)
+    for count in (0, 65):
+        held(ch.with_count(count), 50, 0)
+    ch = held(ch, 600, 12240)
+    for call, size in ((held, 49), (offered, 49), (held, 12241), (held, 48), (held, 1), (offered, 1), (held, 0)):
+        ch = call(ch, 600, size)
+    for index in (100, 200, 300, 400, 500):
+        held(held(base(), index, 48), index, 49)
+
+
+def commits_refused():
+    """14, 16, and 22 of each record that isn't held, by a commit and by a withdrawal."""
+    ch = base()
+    for count in (0, 65):
+        for call in (committed, withdrawn):
+            call(ch.with_count(count), 50, "short")
+    for name in RECORDS:
+        for call in (committed, withdrawn):
+            for index in (50, 100, 200, 300, 400, 500, 600):
+                call(ch, index, name)
+
+
+def calls_beside_held():
+    """On a sound table with held messages: 9 by a hold and by an offer, 22 of the other records, and each held message committed, and withdrawn. The wire stays."""
+    ch = with_held()
+    put_table(ch)
+    for index, name in HELD:
+        for call in (held, offered):
+            call(ch, index, 48 if name == "short" else 49)
+        for call in (committed, withdrawn):
+            call(ch, index, name)
+        if index != 600:
+            other = RECORDS[1 - RECORDS.index(name)]
+            for call in (committed, withdrawn):
+                call(ch, index, other)
+    for call in (committed, withdrawn):
+        call(call(ch, 600, "short"), 600, "short")
+        call(call(ch, 600, "long"), 600, "short")
+
+
+def tried_unsound(ch):
+    """18 by each call, where a later number would come: 16 and 10 or 22, 17, 20."""
+    put_table(ch)
+    held(ch, 50, 0)
+    for name in RECORDS:
+        committed(ch, 50, name)
+        withdrawn(ch, 50, name)
+    offered(ch, 50, 0)
+    slotted(ch)
+    calendared(ch, EACH[:23] + [50])
+
+
+def unsound_by_held():
+    """18 by a held message: its total is not its kind's, or a message in a queue or on the wire has become held; then 18 by other clauses, where the calls on a
+    held message would go through; and a table that is sound since a held message has no place anywhere."""
+    ch = base()
+    for short, long in (
+        (("held", 0), UNUSED), (("held", 2), UNUSED), (("held", 255), UNUSED), (UNUSED, ("held", 0)), (UNUSED, ("held", 1)), (("held", 1), ("held", 1)), (("held", 2), ("held", 2)),
+    ):
+        tried_unsound(ch.with_box(5, box_of(600, short, long)))
+    for k, index, short, long in (
+        (0, 100, ("held", 1), UNUSED), (1, 200, UNUSED, ("held", 3)), (2, 300, ("held", 1), UNUSED), (3, 400, UNUSED, ("held", 2)), (4, 500, UNUSED, ("held", 5)),
+        (0, 100, ("held", 1), ("urgent", 1)), (1, 200, ("long", 1, 3, 3), ("held", 3)),
+    ):
+        tried_unsound(ch.with_box(k, box_of(index, short, long)))
+    ch = ch.with_box(5, box_of(600, ("held", 1), ("held", 5)))
+    tried_unsound(ch.with_minislot(0, 0, WORDS[600], 1))
+    tried_unsound(ch.with_minislot(1, 0, WORDS[500] | WORDS[600], 5))
+    for other in (
+        ch.with_box(4, box_of(600, UNUSED, ("asked", 2, 1, 5))), ch.with_box(0, box_of(100)), ch.with_box(3, box_of(400)), ch.with_box(0, box_of(100, ("urgent", 1), H=2)),
+        ch.with_minislot(1, 0, 0, 0), everywhere(ch, 0, owning(p7=50)), everywhere(ch, 24, NOBODY),
+    ):
+        held(other, 100, 49)
+        for name in RECORDS:
+            committed(other, 600, name)
+            withdrawn(other, 600, name)
+    ch = base().with_box(4, box_of(500, UNUSED, ("held", 5))).with_minislot(1, 0, 0, 0)
+    put_table(ch)
+    for call in (committed, withdrawn):
+        slotted(call(ch, 500, "long"), 1, 2, 1, 1, 2, 1)
+
+
+def served_with_held():
+    """That table in slots: the held messages stay while the others go on, and are committed or withdrawn on the way, between a request and its row too."""
+    ch = with_held()
+    for picks in ((1, 1, 1, 2, 1, 1, 2, 2, 2), (1, 2, 1, 1, 1, 2, 1, 1, 2)):
+        ch = slotted(ch, *picks)
+    ch = committed(ch, 500, "short")
+    ch = committed(ch, 100, "long")
+    for picks in ((2, 1, 2, 2, 1, 1, 1, 1, 1), (1, 2, 1, 1, 2, 2, 2, 1, 2)):
+        ch = slotted(ch, *picks)
+    ch = withdrawn(ch, 300, "long")
+    ch = committed(ch, 900, "long")
+    ch = offered(ch, 300, 49)
+    for picks in ((1, 1, 2, 1, 1, 2, 2, 1, 2), (2, 1, 1, 2, 1, 1, 2, 1, 1), (1, 1, 1, 2, 2, 2, 1, 2, 2)):
+        ch = slotted(ch, *picks)
+    for index, name in ((600, "short"), (800, "short"), (200, "short")):
+        ch = committed(ch, index, name)
+    for picks in ((1, 2, 1, 1, 1, 1, 1, 1, 1), (2, 2, 1, 1, 1, 2, 1, 1, 2), (1, 2, 1, 2, 1, 2, 1, 1, 2), *[(1, 2) * 4 + (1,)] * 4):
+        ch = slotted(ch, *picks)
+    ch = withdrawn(ch, 600, "long")
+    ch = withdrawn(ch, 400, "short")
+    for picks in [(2, 1) * 4 + (2,)] * 6:
+        ch = slotted(ch, *picks)
+
+
+def held_from_the_start():
+    """Two boxes: held through slots, a collision and its resolution among them, committed, withdrawn and held again. Then the same calls with offers, and with each
+    hold committed at once, leave the same."""
+    ch = begun(EMPTY_TABLE.with_count(2), 2, 1, [7, 8])
+    for call, index, argument in ((held, 7, 1), (held, 8, 97), (held, 7, 2), (offered, 7, 49), (offered, 8, 1)):
+        ch = call(ch, index, argument)
+    for picks in ((1, 1), (1, 2), (1, 1), (1, 1), (1, 1)):
+        ch = slotted(ch, *picks)
+    ch = committed(ch, 7, "short")
+    ch = withdrawn(ch, 8, "long")
+    for picks in ((2, 1), (1, 1)):
+        ch = slotted(ch, *picks)
+    ch = committed(held(ch, 8, 145), 8, "long")
+    for picks in ((1, 2), (1, 1), (1, 1), (1, 1), (1, 1)):
+        ch = slotted(ch, *picks)
+    left = []
+    for at_once in (False, True):
+        ch = begun(EMPTY_TABLE.with_count(2), 2, 2, [7, 8])
+        for step in ((7, 10), (8, 97), (1, 1), (7, 100), (2, 2), (8, 1), (1, 2), (2, 1), (1, 1), (1, 1), (1, 1)):
+            if step[0] < 7:
+                ch = slotted(ch, *step)
+            elif at_once:
+                ch = committed(held(ch, *step), step[0], "short" if step[1] <= 48 else "long")
+            else:
+                ch = offered(ch, *step)
+            left.append((ch.boxes, ch.wire))
+    assert left[:11] == left[11:]
+
+
+def streams_beside_held():
+    """Owned slots of boxes with held messages; a commit in between asks in the next one, without data."""
+    ch = everywhere(with_held(), 22, owning(p22=600, p23=500, p0=900, p2=100))
+    ch = slotted(ch, 1, 1, 1, 2, 1, 1, 2, 2, 2)
+    ch = committed(ch, 600, "short")
+    ch = committed(ch, 100, "long")
+    for picks in ((1, 2, 1, 1, 1, 2, 1, 1, 2), (2, 1, 2, 2, 1, 1, 1, 1, 1)):
+        ch = slotted(ch, *picks)
+    ch = calendared(ch, owning(p1=600, p3=600))
+    ch = withdrawn(ch, 600, "long")
+    for picks in ((1, 2, 1, 1, 2, 2, 2, 1, 2), (1, 1, 2, 1, 1, 2, 2, 1, 2), (2, 1, 1, 2, 1, 1, 2, 1, 1)):
+        ch = slotted(ch, *picks)
+    show(ch)
+
+
 def main():
     starts_refused()
     starts()
@@ -561,6 +753,13 @@ def main():
     both_from_the_start()
     streams_beside_two_messages()
     short_among_long()
+    holds()
+    commits_refused()
+    calls_beside_held()
+    unsound_by_held()
+    served_with_held()
+    held_from_the_start()
+    streams_beside_held()
 
 
 if __name__ == "__main__":

@@ -1,8 +1,8 @@
 """The plain channel of the papers, from their sentences and not from the Rattle programs: queues of messages, fed only a start and each call's arguments.
 
 A message is a dict with its box, its slots and how many of them were delivered. Its slots say which of the box's two records it has: a message of one slot
-the short one, any other the long one. Conditions, counters and the wire are read off the queues. The calendar is kept as it was set, and beside it how many
-slots there were since the start: their remainder by 24 is the position.
+the short one, any other the long one. Conditions, counters and the wire are read off the queues. A held message is kept apart: it is in no queue, and no total
+counts it before its commit. The calendar is kept as it was set, and beside it how many slots there were since the start: their remainder by 24 is the position.
 """
 WORDS = [w for w in range(4096) if format(w, "b").count("1") == 6]
 FREE = 65535  # the entry of a position without an owner
@@ -30,12 +30,13 @@ class Plain:
             raise Refusal(15)
         self.m, self.n, self.indexes = m, n, list(indexes)
         self.fresh, self.urgent, self.long = [], [], []
+        self.held = []
         self.group = 1
         self.open = {g: True for g in range(1, n + 1)}
         self.asking = {g: {j: [] for j in range(1, m + 1)} for g in range(1, n + 1)}
         self.resolution = {g: [] for g in range(1, n + 1)}
         self.history = []
-        self.mine = [[None, None] for _ in range(boxes)]  # the message of each box's record that is not all delivered
+        self.mine = [[None, None] for _ in range(boxes)]  # the message of each box's record that was taken and is not all delivered
         self.entries, self.slots = [FREE] * 24, 0
 
     def deliver(self, message, segment):
@@ -44,18 +45,53 @@ class Plain:
         if message["delivered"] == message["slots"]:
             self.mine[message["box"]][record_of(message)] = None
 
-    def offer(self, index, size):
+    def box_of(self, index):
         if index not in self.indexes:
             raise Refusal(16)
-        box = self.indexes.index(index)
+        return self.indexes.index(index)
+
+    def brought(self, index, size):
+        """A message that an offer or a hold brings, not yet kept anywhere."""
+        message = {"box": self.box_of(index), "slots": (size + 47) // 48, "delivered": 0}
         if not 1 <= size <= 12240:
             raise Refusal(10)
-        message = {"box": box, "slots": (size + 47) // 48, "delivered": 0}
-        if self.mine[box][record_of(message)] is not None:
+        if self.mine[message["box"]][record_of(message)] is not None or self.held_by(message["box"], record_of(message)):
             raise Refusal(9)
+        return message
+
+    def taken(self, message):
         self.fresh.append(message)
-        self.mine[box][record_of(message)] = message
+        self.mine[message["box"]][record_of(message)] = message
+
+    def held_by(self, box, record):
+        """The message that a box holds for this record, if any: a list of one or none."""
+        return [message for message in self.held if message["box"] == box and record_of(message) == record]
+
+    def let_go(self, index, record):
+        """The message that was held for this record; it is held no more."""
+        found = self.held_by(self.box_of(index), record)
+        if not found:
+            raise Refusal(22)
+        self.held = [message for message in self.held if message is not found[0]]
+        return found[0]
+
+    def offer(self, index, size):
+        message = self.brought(index, size)
+        self.taken(message)
         return message["slots"]
+
+    def hold(self, index, size):
+        message = self.brought(index, size)
+        self.held.append(message)
+        return message["slots"]
+
+    def commit(self, index, record):
+        message = self.let_go(index, record)
+        self.taken(message)
+        return message["slots"]
+
+    def withdraw(self, index, record):
+        return self.let_go(index, record)["slots"]
 
     def calendar(self, *entries):
         if any(entry != FREE and entry not in self.indexes for entry in entries):
@@ -135,12 +171,14 @@ class Plain:
         return [self.m, self.n, self.group, len(self.urgent), len(self.long)] + lengths + [int(self.open.get(g, True)) for g in groups]
 
     def conditions(self):
-        """Two conditions for each box, the short record's and the long one's: where its message stands in the queues; free if none waits."""
+        """Two conditions for each box, the short record's and the long one's: held, or where its message stands in the queues; free if it has none."""
         found = [[("free",), ("free",)] for _ in self.indexes]
 
         def stands(message, *condition):
             found[message["box"]][record_of(message)] = condition
 
+        for message in self.held:
+            stands(message, "held", message["slots"])
         for message in self.fresh:
             stands(message, "fresh", message["slots"])
         for place, message in enumerate(self.urgent, start=1):

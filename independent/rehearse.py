@@ -11,16 +11,17 @@
 """
 import sys
 
-from plain import FREE, Plain, Refusal
+from plain import FREE, LONG, SHORT, Plain, Refusal
 from recordings import command, lines, numbers_of, printed, zeros
 
 HEADER = b"call,kind,group,turn,senders,index,segment,delivered,H,N,RQ\r\n"
 LONGEST = 512
-# the largest number that each parameter holds; the bytes of an offer are any number of five digits
+# the largest number that each parameter holds; the bytes of an offer or a hold are any number of five digits
 MINISLOTS = GROUPS = PICKED = 255
 INDEX = ENTRY = 65535
 BYTES = 99999
 POSITIONS = 24
+KINDS = {b"short": SHORT, b"long": LONG}
 LETTERS = {"owned": "w", "urgent": "u", "long": "l", "resolve": "r", "open": "o"}
 
 
@@ -28,12 +29,19 @@ def line(*values):
     return ",".join(str(value) for value in values).encode() + b"\r\n"
 
 
-def held(fields, most):
+def fitting(fields, most):
     """The fields' numbers, one for each parameter. 19: another count of them, or a number above the most that its parameter holds."""
     numbers = numbers_of(fields)
     if len(numbers) != len(most) or any(x > y for x, y in zip(numbers, most)):
         raise Refusal(19)
     return numbers
+
+
+def named(fields):
+    """An index, and which of the two records a word names. 19: anything else."""
+    if len(fields) != 2 or fields[1] not in KINDS:
+        raise Refusal(19)
+    return fitting(fields[:1], [INDEX]) + [KINDS[fields[1]]]
 
 
 class Rehearsal:
@@ -48,18 +56,24 @@ class Rehearsal:
     def step(self, record):
         fields = record.split(b",")
         if self.channel is None:
-            m, n, *indexes = held(fields, [MINISLOTS, GROUPS] + [INDEX] * (len(fields) - 2))
+            m, n, *indexes = fitting(fields, [MINISLOTS, GROUPS] + [INDEX] * (len(fields) - 2))
             self.channel = Plain(len(indexes), m, n, indexes)
             return b""
         word, *rest = fields
         if word == b"offer":
-            call, numbers = self.offer, held(rest, [INDEX, BYTES])
+            call, numbers = self.offer, fitting(rest, [INDEX, BYTES])
+        elif word == b"hold":
+            call, numbers = self.hold, fitting(rest, [INDEX, BYTES])
+        elif word == b"commit":
+            call, numbers = self.commit, named(rest)
+        elif word == b"withdraw":
+            call, numbers = self.withdraw, named(rest)
         elif word == b"slot":
-            call, numbers = self.slot, held(rest, [PICKED] * len(rest))
+            call, numbers = self.slot, fitting(rest, [PICKED] * len(rest))
         elif word == b"calendar":
-            call, numbers = self.calendar, held(rest, [ENTRY] * POSITIONS)
+            call, numbers = self.calendar, fitting(rest, [ENTRY] * POSITIONS)
         elif word == b"show":
-            call, numbers = self.show, held(rest, [])
+            call, numbers = self.show, fitting(rest, [])
         else:
             raise Refusal(19)
         self.calls += 1
@@ -73,6 +87,15 @@ class Rehearsal:
 
     def offer(self, index, bytes):
         return self.line("offer", self.channel.offer(index, bytes))
+
+    def hold(self, index, bytes):
+        return self.line("hold", self.channel.hold(index, bytes))
+
+    def commit(self, index, record):
+        return self.line("commit", self.channel.commit(index, record))
+
+    def withdraw(self, index, record):
+        return self.line("withdraw", self.channel.withdraw(index, record))
 
     def slot(self, *picks):
         group = self.channel.group
@@ -102,7 +125,7 @@ def rehearse(data):
 
 # ---- what the lists are made of
 
-ARRIVES, KIND, SIZE, PICK, BAD, BAD_KIND, SET, SET_KIND, OWNED, OWNER, SHORTS, LONGS, APART = range(1, 14)
+ARRIVES, KIND, SIZE, PICK, BAD, BAD_KIND, SET, SET_KIND, OWNED, OWNER, SHORTS, LONGS, APART, HELD, RELEASED, RELEASE_KIND = range(1, 17)
 
 
 def scrambled(x):
@@ -171,11 +194,23 @@ def drawn_calendar(s, indexes):
     return entries_of(entries)
 
 
-def driven(stations, m, n, slots, calendars=False):
+def drawn_releases(s, indexes, sent):
+    """Commits and withdrawals by the same rule: of messages that a hold was sent for, index and kind, which leave that list; and now and then of any record. Where
+    nothing is held they are refused."""
+    chosen = [pair for k, pair in enumerate(sent) if draw(s, k, RELEASED, 5) == 0]
+    sent[:] = [pair for pair in sent if pair not in chosen]
+    if draw(s, 0, RELEASE_KIND, 6) == 0:
+        chosen.append((indexes[draw(s, 1, RELEASED, len(indexes))], ["short", "long"][s % 2]))
+    return ["%s,%d,%s" % ("withdraw" if draw(s, k, RELEASE_KIND, 4) == 0 else "commit", *pair) for k, pair in enumerate(chosen)]
+
+
+def driven(stations, m, n, slots, calendars=False, holds=False):
     """Offers, bad calls and slots by an arithmetic rule: first seldom an offer, then more of them, then many; often one of each kind to the same station. A show
-    now and then, before a slot or after it. With calendars, one is set before some of the slots."""
+    now and then, before a slot or after it. With calendars, one is set before some of the slots. With holds, about every second message is held
+    and not offered, and there are commits and withdrawals before the slots."""
     indexes = [(331 * k + n) % 924 for k in range(stations)]
     calls = [start(m, n, indexes)]
+    sent = []
     apart = 24
     for s in range(slots):
         rarity = [8 * stations, 2 * stations, min(stations, 8)][s // 24 % 3]
@@ -183,7 +218,10 @@ def driven(stations, m, n, slots, calendars=False):
             if draw(s, k, ARRIVES, rarity) == 0:
                 short, two_slots, longer = 1 + draw(s, k, SIZE, 48), 49 + draw(s, k, SIZE, 48), 49 + draw(s, k, SIZE, 432)
                 sizes = [(short,), (short,), (short,), (two_slots,), (short, two_slots), (two_slots, short), (short, two_slots), (longer, short)][draw(s, k, KIND, 8)]
-                calls += ["offer,%d,%d" % (indexes[k], size) for size in sizes]
+                which = draw(s, k, HELD, 4) if holds else 0
+                calls += ["%s,%d,%d" % ("hold" if which & bit else "offer", indexes[k], size) for bit, size in zip((1, 2), sizes)]
+                sent += [(indexes[k], "short" if size <= 48 else "long") for bit, size in zip((1, 2), sizes) if which & bit]
+        calls += drawn_releases(s, indexes, sent) if holds else []
         picks = [1 + draw(s, k, PICK, m) for k in range(stations + 1)]
         if draw(s, n, BAD, 6) == 0:
             k = draw(s, n, KIND, stations)
@@ -200,6 +238,43 @@ def driven(stations, m, n, slots, calendars=False):
         if s % apart == apart // 2:
             calls.append("show")
     return lines(*calls)
+
+
+def by_holds(data):
+    """The same list, with a hold and at once its commit for each offer."""
+    records = []
+    for record in data.split(b"\r\n")[:-1]:
+        word, *rest = record.split(b",")
+        if word == b"offer":
+            records += [b"hold,%s,%s" % tuple(rest), b"commit,%s,%s" % (rest[0], b"short" if int(rest[1]) <= 48 else b"long")]
+        else:
+            records.append(record)
+    return b"".join(record + b"\r\n" for record in records)
+
+
+def answers(data):
+    """What is printed for each call of a list, without the call's number."""
+    out = {}
+    for text in rehearse(data).split(b"\r\n")[1:-1]:
+        call, rest = text.split(b",", 1)
+        out.setdefault(call, []).append(rest)
+    return list(out.values())
+
+
+def alike(data, twin):
+    """Stops unless two lists, the one with offers and the other `by_holds`, have the same answers: where an offer is taken the hold and the commit say its total,
+    where it is refused the hold has its number and the commit finds nothing held; and all other calls print the same."""
+    second = iter(answers(twin))
+    for first in answers(data):
+        held = next(second)
+        if first[0].startswith(b"offer,"):
+            total = first[0].split(b",")[1]
+            assert [held, next(second)] == [[b"hold," + total], [b"commit," + total]]
+            continue
+        assert held == first, (held, first)
+        if first[0] in (b"refused,9", b"refused,10", b"refused,16"):
+            assert next(second)[0] in (b"refused,22", b"refused,16")
+    assert not list(second)
 
 
 def bursts(n, slots):
@@ -312,6 +387,17 @@ def pairs():
         ("resolving_resolving", short, *others, late, long, *other_longs, late, silent, silent),
     ):
         yield "pair_" + name, lines("2,2,7,8,9,10", *calls, "show", "offer,7,0", "offer,7,48", "offer,7,49", *[parted] * 22, "show")
+    # one of the two is held, or both: it is when the slots are over, and is committed then
+    short_held, long_held = "hold,7,1", "hold,7,240"
+    for name, *calls in (
+        ("held_free", short_held), ("held_held", short_held, long_held), ("held_fresh", short_held, long), ("held_asked", short_held, long, silent), ("held_long", short_held, *queued),
+        ("held_resolving", short_held, long, *others, late, silent, silent),
+        ("free_held", long_held), ("fresh_held", long_held, short), ("asked_held", long_held, short, silent), ("urgent_held", long_held, short, others[0], late, silent, silent),
+        ("resolving_held", long_held, short, *others, late, silent, silent),
+    ):
+        yield "pair_" + name, lines(
+            "2,2,7,8,9,10", *calls, "show", "offer,7,0", "hold,7,12241", "offer,7,48", "hold,7,48", "hold,7,49", "offer,7,49", *[parted] * 22, "show", "commit,7,short", "commit,7,long",
+            *[parted] * 12, "show")
 
 
 def two_messages():
@@ -386,6 +472,102 @@ def short_among_long():
         "show", *[slot(i % 8 + 1 for i in range(24))] * 8, "show", *[slot([1] * 24)] * 32, "show", slot([1] * 24), "show")
     for n in (1, 3):
         yield "short_ones_among_long_ones_in_bursts_groups_%d" % n, bursts(n, 720)
+
+
+def every_turn(data, *conditions):
+    """A list whose slots, before any commit or withdrawal, have every turn, and whose shows have station 7's records in each of these pairs of conditions. It
+    stops if a turn or a pair is missing."""
+    before = data.split(b"commit,")[0].split(b"withdraw,")[0]
+    printed_lines = [text.split(",") for text in rehearse(before).decode().split("\r\n")]
+    turns = {fields[3] for fields in printed_lines if fields[1:2] == ["slot"]}
+    mine = [fields[3] for fields in printed_lines if fields[1:3] == ["message", "7"]]
+    assert turns == set("ulrow") and set(conditions) <= set(zip(mine[::2], mine[1::2])), (turns, mine)
+    return data
+
+
+def holds():
+    """Held messages: through slots of every turn, beside a message of the other kind, committed, withdrawn and held again."""
+    yield "example_of_holds", lines(
+        "2,1,7,8,9", "hold,7,48", "hold,9,97", "slot,1,1,1", "offer,8,20", "commit,9,long", "offer,7,1", "slot,1,1,2", "withdraw,7,short", "show", "slot,1,1,1", "commit,7,short",
+        "hold,7,30", "slot,1,1,1", "commit,7,short", "slot,1,1,1", "slot,1,1,1", "show", "slot,1,1,1")
+    yield "held_then_committed", shown(ONE, "hold,7,48", "slot,1", "slot,2", "commit,7,short", "slot,2", "slot,1")
+    yield "held_and_long_then_committed", shown(ONE, "hold,7,97", "slot,1", "slot,2", "commit,7,long", "slot,2", *["slot,1"] * 4)
+    yield "held_withdrawn_and_held_again", shown(
+        TWO, "hold,7,1", "slot,1,1", "withdraw,7,short", "slot,1,1", "hold,7,48", "slot,1,1", "withdraw,7,short", "hold,7,2", "commit,7,short", "slot,2,1", "slot,1,1")
+    yield "held_and_long_withdrawn_and_held_again", shown(
+        TWO, "hold,7,97", "slot,1,1", "withdraw,7,long", "slot,1,1", "hold,7,12240", "withdraw,7,long", "hold,7,49", "slot,1,1", "commit,7,long", *["slot,2,1"] * 4)
+    yield "held_withdrawn_and_offered", shown(TWO, "hold,7,1", "hold,7,97", "withdraw,7,short", "withdraw,7,long", "offer,7,49", "offer,7,48", *["slot,1,1"] * 5)
+    yield "held_and_never_committed", lines(TWO, "hold,7,1", "hold,7,49", "offer,8,1", "show", *["slot,1,1"] * 60, "show")
+    yield "both_held_and_committed_long_first", shown(
+        TWO, "hold,7,97", "hold,7,1", "slot,1,1", "commit,7,long", "slot,2,1", "commit,7,short", *["slot,1,1"] * 6)
+    yield "both_held_and_committed_short_first", shown(TWO, "hold,7,97", "hold,7,1", "commit,7,short", "commit,7,long", *["slot,1,1"] * 7)
+    yield "both_held_and_one_withdrawn", shown(TWO, "hold,7,97", "hold,7,1", "withdraw,7,long", "slot,1,1", "commit,7,short", "hold,7,49", *["slot,1,1"] * 3, "withdraw,7,long", "slot,1,1")
+    yield "a_held_short_one_beside_a_fresh_long_one", shown(TWO, "hold,7,1", "offer,7,97", "slot,2,1", "slot,1,1", "commit,7,short", *["slot,1,1"] * 5)
+    yield "a_held_long_one_beside_a_fresh_short_one", shown(TWO, "offer,7,1", "hold,7,97", "slot,2,1", "slot,1,1", "commit,7,long", *["slot,1,1"] * 6)
+    yield "a_committed_short_one_asks_before_a_fresh_long_one", shown(
+        "2,1,7,8,9", "hold,7,1", "offer,8,1", "offer,9,1", "slot,1,1,1", "offer,7,97", "slot,1,1,2", "commit,7,short", *["slot,2,1,1"] * 9)
+    yield "a_committed_long_one_waits_for_a_fresh_short_one", shown("2,1,7,8,9", "hold,7,97", "offer,7,1", "commit,7,long", *["slot,2,1,1"] * 6)
+    yield "a_committed_message_waits_for_the_resolution", shown(
+        "2,1,7,8,9", "hold,9,1", "offer,7,1", "offer,8,1", "slot,1,1,1", "commit,9,short", "slot,1,2,1", "slot,1,1,1", "slot,1,1,2", "slot,1,1,1", "slot,1,1,1")
+    yield "two_committed_ones_collide", shown(TWO, "hold,7,48", "hold,8,97", "slot,1,1", "commit,8,long", "commit,7,short", "slot,1,1", "slot,1,2", *["slot,1,1"] * 5)
+    yield "a_held_one_is_no_part_of_a_collision", shown(TWO, "hold,7,48", "offer,8,1", "slot,1,1", "slot,1,1", "commit,7,short", "slot,1,1", "slot,1,1")
+    yield "held_while_the_station_sends", shown(
+        ONE, "offer,7,97", "slot,1", "slot,1", "hold,7,1", "slot,1", "withdraw,7,short", "hold,7,2", "slot,1", "slot,1", "commit,7,short", "slot,1", "slot,1")
+    yield "held_after_a_success_and_after_a_last_segment", shown(
+        ONE, "offer,7,1", "slot,1", "hold,7,2", "slot,1", "hold,7,2", "offer,7,49", *["slot,1"] * 3, "hold,7,50", "slot,1", "hold,7,50", "commit,7,long", *["slot,1"] * 4)
+    # between a request and its row
+    yield "a_commit_between_a_request_and_its_row", shown(TWO, "offer,7,97", "hold,7,1", "slot,1,1", "commit,7,short", "slot,2,1", *["slot,1,1"] * 5)
+    yield "a_commit_between_a_success_and_its_row", shown(TWO, "offer,7,1", "hold,7,49", "hold,8,48", "slot,2,1", "commit,7,long", "commit,8,short", "slot,1,2", *["slot,1,1"] * 4)
+    yield "a_commit_between_a_collision_and_its_row", shown(
+        "2,1,7,8,9", "hold,7,97", "hold,9,1", "offer,7,1", "offer,8,1", "slot,1,1,1", "commit,7,long", "commit,9,short", "slot,1,2,1", *["slot,1,1,2"] * 8)
+    yield "a_withdrawal_between_a_request_and_its_row", shown(
+        TWO, "offer,7,1", "hold,7,97", "hold,8,1", "slot,1,1", "withdraw,7,long", "withdraw,8,short", "hold,8,49", "slot,1,1", "slot,1,1")
+    yield "commits_in_two_groups", shown("2,2,7,8", "hold,7,1", "hold,7,97", "hold,8,1", "slot,1,2", "commit,7,short", "commit,8,short", "slot,2,2", "commit,7,long", *["slot,1,2"] * 9)
+    yield "commits_in_eight_groups", lines(
+        "2,8,7,8", "hold,7,1", "hold,7,49", "hold,8,49", "slot,1,1", "commit,7,long", "slot,1,1", "slot,1,1", "commit,7,short", "slot,1,1", "commit,8,long", "slot,2,2", "show",
+        *["slot,1,1"] * 8, "show", *["slot,1,1"] * 8, "show")
+    # owned slots
+    yield "commits_in_owned_slots", shown(
+        TWO, calendar({p: 7 + p % 2 for p in range(6)}), "hold,7,1", "hold,8,49", "slot,1,2", "commit,7,short", "slot,1,2", "commit,8,long", *["slot,1,2"] * 7)
+    yield "an_owner_that_is_held", shown(TWO, calendar({0: 7, 1: 7, 3: 7}), "hold,7,1", "hold,7,49", *["slot,1,1"] * 3, "commit,7,short", "slot,2,1", "commit,7,long", *["slot,1,1"] * 5)
+    yield "a_calendar_between_a_hold_and_its_commit", shown(TWO, "hold,7,1", "slot,1,1", calendar({1: 8, 2: 8}), "slot,1,1", "commit,7,short", "slot,1,1", CLEARED, "slot,1,1", "slot,1,1")
+    # every turn
+    yield "a_held_short_one_through_every_turn", every_turn(shown(
+        "2,1,7,8,9,10", "hold,7,1", "slot,1,1,1,1", "offer,8,1", "offer,9,1", "slot,1,1,1,1", "offer,7,145", "slot,1,1,2,1", "offer,8,49", "offer,9,49", "offer,10,49", "slot,2,1,1,2",
+        "slot,1,1,2,1", "slot,1,1,1,2", "slot,1,1,1,1", calendar({6: 7, 7: 9, 9: 7}), *["slot,1,1,1,1"] * 10, "commit,7,short", "slot,2,1,1,1", "slot,1,1,1,1"),
+        *[("held", other) for other in ("free", "fresh", "asked", "resolving", "long")])
+    yield "a_held_long_one_through_every_turn", every_turn(shown(
+        "2,1,7,8,9,10", "hold,7,240", "slot,1,1,1,1", "offer,8,1", "offer,9,1", "slot,1,1,1,1", "offer,7,1", "slot,1,1,2,1", "offer,8,49", "offer,9,49", "offer,10,1", "slot,2,1,1,2",
+        "slot,1,1,2,1", "slot,2,1,1,1", "slot,1,1,1,1", calendar({7: 7, 8: 9, 10: 7}), *["slot,1,1,1,1"] * 8, "commit,7,long", "slot,2,1,1,1", *["slot,1,1,1,1"] * 6),
+        *[(other, "held") for other in ("free", "fresh", "asked", "resolving", "urgent")])
+    yield "both_held_through_every_turn", every_turn(shown(
+        "2,1,7,8,9,10", "hold,7,1", "hold,7,240", "slot,1,1,1,1", "offer,8,1", "offer,9,1", "slot,1,1,1,1", "slot,1,1,2,1", "offer,10,49", calendar({4: 7}), *["slot,1,1,1,1"] * 5,
+        "withdraw,7,long", "commit,7,short", "slot,1,1,1,1", "slot,1,1,1,1"),
+        ("held", "held"))
+    # all there can be
+    yield "slot_totals_of_holds", lines(start(2, 1, range(9)), *["hold,%d,%d" % (k, bytes) for k, bytes in enumerate((1, 47, 48, 49, 96, 97, 12192, 12193, 12240))], "show")
+    yield "hold_with_leading_zeros", lines(TWO, "hold,00007,00048", "hold,08,0097", "show", "commit,00007,short", "withdraw,008,long", "show", "slot,1,1")
+    for call in ("hold,8,49", "commit,7,short", "withdraw,7,short"):
+        yield "last_%s_without_cr_lf" % call.split(",")[0], lines(TWO, "hold,7,1", "slot,1,1") + call.encode()
+    yield "the_longest_message_held", lines("2,8,923", "hold,923,12240", *["slot,1"] * 9, "show", "commit,923,long", *["slot,1"] * 263, "show", "slot,1", "show")
+    yield "sixty_four_held", lines(
+        start(8, 2, MANY), *["hold,%d,%d" % (index, bytes) for index in MANY for bytes in (48, 12240)], "show", BY_ROW, BY_ROW, "show", *["commit,%d,short" % index for index in MANY],
+        BY_COLUMN, *["withdraw,%d,long" % index for index in MANY[:56]], *["commit,%d,long" % index for index in MANY[56:]], "show", *[BY_ROW] * 24, "show", *[BY_ROW] * 80, "show")
+
+
+def twins():
+    """Two lists alike, but that in the second each offer is a hold and at once its commit: all that is printed after is the same, but for the number of the call."""
+    silent = "slot,1,1,1,1"
+    offers = lines(
+        "2,2,7,8,9,10", "offer,7,48", "show", "slot,2,1,1,1", "offer,8,49", "offer,7,97", "offer,7,1", "offer,7,0", "slot,1,2,1,1", "show", "offer,9,1", "offer,10,1", silent, "show",
+        "offer,7,1", "offer,8,1", "offer,9,240", "offer,10,12241", "offer,11,1", "slot,1,2,2,2", "show", "slot,1,1,1,2", calendar({p: 8 for p in range(6, 12, 2)}), "offer,8,60",
+        "offer,10,1", *["slot,1,2,2,1", "slot,2,1,1,2"] * 3, "show", "offer,7,50", "offer,9,49", *["slot,1,1,2,2"] * 16, "show")
+    for name, data in (("offers", offers), ("driven_stations_7_groups_3", driven(7, 2, 3, 432))):
+        twin = by_holds(data)
+        alike(data, twin)
+        if name == "offers":
+            yield "twin_of_offers", data
+        yield "twin_of_%s_by_holds" % name, twin
 
 
 def streams():
@@ -524,6 +706,74 @@ def refusals():
         yield name, lines(TWO, "offer,7,1", record, "show")
 
 
+def refused_holds():
+    """What holds, commits and withdrawals answer where they are refused, and in which order they are checked. They alter nothing, and the list goes on."""
+    short, long = [["%s,7,%s" % (call, kind) for call in ("commit", "withdraw")] for kind in ("short", "long")]
+    silent = "slot,1,1,1,1"
+    yield "number_9_of_a_held_record", shown(
+        TWO, "hold,7,1", "hold,7,48", "offer,7,1", "hold,7,49", "offer,7,49", "hold,7,12240", "slot,1,1", "hold,7,1", "offer,7,50", "hold,8,1", "offer,8,1")
+    yield "number_9_of_a_hold", lines(
+        "2,1,7,8,9,10", "offer,7,1", "hold,7,1", "offer,8,1", "slot,1,1,1,1", "hold,7,1", "hold,8,48", "slot,1,1,1,1", "slot,1,2,1,1", "hold,7,1", "offer,9,97", "slot,1,1,1,1",
+        "hold,7,1", "hold,8,1", "slot,1,1,1,1", "hold,8,1", "slot,1,1,1,1", "hold,9,49", "slot,1,1,1,1", "hold,9,49", "slot,1,1,1,1", "hold,9,49", "show")
+    yield "number_9_of_a_hold_while_resolving", shown(
+        "2,1,7,8,9,10", *["offer,%d,1" % i for i in (7, 8, 9)], "offer,10,49", "slot,1,1,2,2", "slot,1,2,1,1", "hold,9,1", "hold,10,49", "hold,9,49", "hold,10,1", "slot,1,1,1,2",
+        "hold,10,49")
+    yield "number_10_of_a_hold", lines(TWO, *["hold,7,%s" % bytes for bytes in ("0", "00000", "12241", "65535", "65536", "65584", "99999")], "show", "hold,7,12240", "show")
+    yield "ten_before_nine_of_a_hold", lines(
+        TWO, "hold,7,1", "hold,7,0", "hold,7,12241", "offer,7,0", "offer,7,12241", "hold,7,49", "hold,7,0", "hold,7,12241", "hold,7,99999", "hold,7,48", "hold,7,12240", "show",
+        "offer,8,1", "offer,8,49", "hold,8,0", "hold,8,12241", "show")
+    yield "number_16_of_holds", lines(
+        TWO, "hold,7,1", "hold,7,49", *["%s,%d,%s" % (call, index, what) for index in (6, 9, 0, 923, 924, 65535) for call, what in (
+            ("hold", "1"), ("commit", "short"), ("commit", "long"), ("withdraw", "short"), ("withdraw", "long"))], "show", "withdraw,7,short", "show")
+    yield "sixteen_before_ten_of_a_hold", lines(TWO, "hold,7,1", "hold,9,0", "hold,9,12241", "hold,9,99999", "hold,7,0")
+    yield "sixteen_before_twenty_two", lines(TWO, "commit,9,short", "commit,7,short", "withdraw,9,long", "withdraw,7,long", "show")
+    yield "number_22_of_free_records", shown(TWO, *short, *long, "slot,1,1", *short, *long)
+    yield "number_22_of_the_other_record", shown(TWO, "hold,7,1", *long, "hold,8,49", "commit,8,short", "withdraw,8,short", "commit,7,short", "withdraw,8,long", *long)
+    yield "number_22_of_another_station", shown(TWO, "hold,7,1", "hold,7,49", "commit,8,short", "withdraw,8,short", "commit,8,long", "withdraw,8,long", "slot,1,1")
+    yield "number_22_the_second_time", shown(
+        TWO, "hold,7,1", "commit,7,short", *short, "hold,7,49", "commit,7,long", *long, "slot,1,1", "hold,8,1", "withdraw,8,short", "withdraw,8,short", "commit,8,short", "slot,1,1")
+    # a record that is fresh, asked, in a resolution queue, and in the urgent or the long one; the other one is held
+    for name, other, offered_one, mine in (("short", "hold,7,49", "offer,7,1", short), ("long", "hold,7,1", "offer,7,97", long)):
+        yield "number_22_of_a_%s_record" % name, shown(
+            "2,2,7,8,9,10", other, offered_one, *mine, "slot,2,1,1,1", *mine, "slot,1,1,1,1", "offer,8,1", silent, *mine, silent, *mine, silent, silent, *mine)
+        yield "number_22_of_a_%s_record_in_a_collision" % name, shown(
+            "2,1,7,8,9,10", other, offered_one, *["offer,%d,1" % i for i in (8, 9, 10)], "slot,2,1,1,2", "slot,1,1,2,1", *mine, "slot,2,1,1,1", *mine, silent, *mine, silent,
+            *mine, *[silent] * 4)
+    yield "refused_holds_between", shown(
+        TWO, "hold,7,1", "hold,7,1", "slot,1,0", "slot,1,1", "commit,7,long", "slot,1", "offer,7,48", "commit,7,short", "slot,1,1", "withdraw,7,short", "hold,9,1", "hold,8,97",
+        "commit,8,short", "hold,8,12241", "slot,1,1", calendar({3: 9}), "commit,8,long", "commit,8,long", "slot,2,2,2", "slot,2,2", "hold,8,49", "slot,1,1", "slot,1,1", "slot,1,1")
+
+
+def broken_holds():
+    """Holds, commits and withdrawals that break the form, each where what it may be meant for would go through."""
+    def after_holds(record):
+        return lines(TWO, "hold,7,1", "hold,7,49", "slot,1,1") + record + b"\r\n" + lines("slot,1,1")
+
+    for name, record in (
+        ("alone", b"hold"), ("with_a_comma", b"hold,"), ("of_one_number", b"hold,8"), ("of_three_numbers", b"hold,8,1,1"), ("without_an_index", b"hold,,1"),
+        ("without_bytes", b"hold,8,"), ("with_a_comma_last", b"hold,8,1,"), ("of_index_65536", b"hold,65536,1"), ("of_index_99999", b"hold,99999,0"), ("of_six_digits", b"hold,8,000048"),
+        ("of_an_index_of_six_digits", b"hold,000008,1"), ("of_a_kind", b"hold,8,short"), ("with_a_minus", b"hold,-8,1"), ("with_a_space", b"hold,8, 1"), ("with_a_capital", b"Hold,8,1"),
+        ("with_a_word_too_short", b"hol,8,1"), ("with_a_word_too_long", b"holds,8,1"), ("with_another_word", b"held,8,1"),
+    ):
+        yield "hold_" + name, after_holds(record)
+    for call, short_word, long_word in (("commit", "commi", "commits"), ("withdraw", "withdra", "withdrawn")):
+        for name, record in (
+            ("alone", call), ("with_a_comma", call + ","), ("of_an_index_alone", call + ",7"), ("without_a_kind", call + ",7,"), ("of_a_kind_alone", call + ",short"),
+            ("without_an_index", call + ",,short"), ("with_kind_and_index_exchanged", call + ",short,7"), ("with_a_comma_last", call + ",7,short,"), ("with_two_commas", call + ",7,,short"),
+            ("of_both_kinds", call + ",7,short,long"), ("with_a_number_behind", call + ",7,long,1"), ("of_a_number_for_a_kind", call + ",7,1"), ("of_a_capital_kind", call + ",7,Short"),
+            ("of_capitals", call + ",7,LONG"), ("of_a_kind_too_long", call + ",7,shorter"), ("of_a_long_kind_too_long", call + ",7,longer"), ("of_a_kind_too_short", call + ",7,shor"),
+            ("of_a_long_kind_too_short", call + ",7,lon"), ("of_one_letter", call + ",7,s"), ("of_another_kind", call + ",7,urgent"), ("with_a_space_before_the_kind", call + ",7, short"),
+            ("with_a_space_after_the_kind", call + ",7,short "), ("with_a_nul_after_the_kind", call + ",7,long\0"), ("with_a_quote", call + ',7,"short"'),
+            ("of_index_65536", call + ",65536,short"), ("of_index_65543", call + ",65543,short"), ("of_index_99999", call + ",99999,long"),
+            ("of_an_index_of_six_digits", call + ",000007,short"), ("with_a_minus", call + ",-7,short"),
+            ("with_a_letter_in_the_index", call + ",7a,short"), ("with_semicolons", call + ";7;short"), ("with_a_capital", call.capitalize() + ",7,short"),
+            ("with_a_word_too_short", short_word + ",7,short"), ("with_a_word_too_long", long_word + ",7,short"),
+        ):
+            yield call + "_" + name, after_holds(record.encode())
+    for first in ("hold,7,1", "commit,7,short", "withdraw,7,long"):
+        yield "first_is_a_" + first.split(",")[0], lines(first, TWO, "slot,1,1")
+
+
 def broken():
     """Records that are no start or no call, each of which ends the output; and, beside those that are too long, some of just the most bytes."""
     yield "empty_input", b""
@@ -585,10 +835,13 @@ def drives():
         yield "driven_stations_%d_groups_%d" % (stations, n), driven(stations, m, n, slots)
     for stations, m, n, slots in ((1, 2, 1, 240), (2, 3, 3, 240), (7, 3, 1, 240), (7, 2, 8, 240), (64, 3, 1, 120), (64, 8, 3, 120)):
         yield "driven_with_calendars_stations_%d_groups_%d" % (stations, n), driven(stations, m, n, slots, calendars=True)
+    for stations, m, n, slots in ((1, 2, 2, 240), (7, 3, 1, 240), (64, 8, 3, 120)):
+        yield "driven_with_holds_stations_%d_groups_%d" % (stations, n), driven(stations, m, n, slots, holds=True)
+    yield "driven_with_calendars_and_holds_stations_7_groups_3", driven(7, 2, 3, 240, calendars=True, holds=True)
 
 
 def cases():
-    for part in (walks, pairs, two_messages, short_among_long, streams, starts, refusals, calendars, broken, drives):
+    for part in (walks, pairs, two_messages, short_among_long, holds, twins, streams, starts, refusals, refused_holds, calendars, broken, broken_holds, drives):
         yield from part()
 
 

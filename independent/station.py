@@ -112,7 +112,7 @@ def read(word, count):
     return ("collide",)
 
 
-# ---- the four operations
+# ---- the operations
 
 def start(m, n, index):
     if not (in_range(2, m, 8) and in_range(1, n, 8)):
@@ -122,7 +122,8 @@ def start(m, n, index):
     return blank(m, n, index)
 
 
-def offer(box, size):
+def take(box, size, kind):
+    """The slots of a message of so many bytes, and the record after: it is in the message record that its length picks, in a condition of this kind."""
     if not fits(box):
         raise Refusal(18)
     if not in_range(1, size, 12240):
@@ -131,7 +132,33 @@ def offer(box, size):
     if box[name] != UNUSED:
         raise Refusal(9)
     slots = -(-size // 48)
+    return slots, dict(box, **{name: (kind, slots)})
+
+
+def offer(box, size):
+    return take(box, size, "fresh")
+
+
+def hold(box, size):
+    return take(box, size, "held")
+
+
+def held_in(box, name):
+    """The slots of the message that is held in this record."""
+    if not fits(box):
+        raise Refusal(18)
+    if box[name][0] != "held":
+        raise Refusal(22)
+    return box[name][1]
+
+
+def commit(box, name):
+    slots = held_in(box, name)
     return slots, dict(box, **{name: ("fresh", slots)})
+
+
+def withdraw(box, name):
+    return held_in(box, name), dict(box, **{name: UNUSED})
 
 
 def asked_here(box):
@@ -291,15 +318,35 @@ def alone(condition):
     return (UNUSED, condition) if kind == "long" or kind not in ("free", "urgent") and v[-1] > 1 else (condition, UNUSED)
 
 
-def offered(box, size):
-    put("offer", size)
+def written(box, call, argument, answer):
+    """An offer, a hold, a commit or a withdrawal; what it answers has this word before it."""
     try:
-        slots, box = offer(box, size)
-        put("taken", slots)
+        slots, box = call(box, argument)
+        put(answer, slots)
     except Refusal as r:
         put("refused", r)
     put_record(box)
     return box
+
+
+def offered(box, size):
+    put("offer", size)
+    return written(box, offer, size, "taken")
+
+
+def held(box, size):
+    put("hold", size)
+    return written(box, hold, size, "held")
+
+
+def committed(box, name):
+    put("commit", RECORDS.index(name) + 1)
+    return written(box, commit, name, "committed")
+
+
+def withdrawn(box, name):
+    put("withdraw", RECORDS.index(name) + 1)
+    return written(box, withdraw, name, "withdrawn")
 
 
 def calendared(box, entries):
@@ -704,7 +751,7 @@ def streams_beside():
 
 # ---- both records in use
 
-def holding(short, long, H=0, N=0, RQ1=0, RQ2=0):
+def having(short, long, H=0, N=0, RQ1=0, RQ2=0):
     """Box 0 of two groups with these records, group 1 coming; each queue as long as its places need, or longer."""
     if short[0] == "urgent":
         H = max(H, short[1])
@@ -729,7 +776,7 @@ def every_pair():
             UNUSED, ("fresh", 3), ("asked", 1, 2, 3), ("asked", 2, 1, 3), ("resolving", 1, 1, 3), ("resolving", 1, 2, 3), ("resolving", 2, 1, 3), ("long", 1, 2, 3), ("long", 3, 3, 3),
         ):
             if not share(short, long):
-                heard_alone(heard_alone(holding(short, long), 1), 2)
+                heard_alone(heard_alone(having(short, long), 1), 2)
 
 
 def pairs_heard_otherwise():
@@ -737,10 +784,10 @@ def pairs_heard_otherwise():
     mine, reel, other = ("asked", 1, 2, 1), ("asked", 1, 2, 3), (95, 1)
     for row in ([EMPTY, (127, 1)], [(127, 0), (127, 1)], [other, (63, 1)]):
         for long in (("fresh", 3), ("asked", 2, 1, 3), ("resolving", 1, 1, 3), ("resolving", 2, 1, 3), ("long", 1, 3, 3)):
-            slotted(holding(mine, long), row, 1)
+            slotted(having(mine, long), row, 1)
     for row in ([EMPTY, (127, 3)], [(127, 0), (127, 3)], [other, (63, 3)]):
         for short in (("fresh", 1), ("asked", 2, 1, 1), ("resolving", 1, 1, 1), ("resolving", 2, 1, 1), ("urgent", 1)):
-            slotted(holding(short, reel), row, 1)
+            slotted(having(short, reel), row, 1)
 
 
 def own_hearing_of_two():
@@ -760,7 +807,7 @@ def own_hearing_of_two():
         (("urgent", 1), ("long", 1, 3, 3), ([EMPTY, reel], [mine, EMPTY])),
     ):
         for row in rows:
-            slotted(holding(short, long), row, 1)
+            slotted(having(short, long), row, 1)
 
 
 def data_of_two():
@@ -769,7 +816,7 @@ def data_of_two():
         (2, 0, 0, ("fresh", 1), ("long", 1, 3, 3)), (1, 5, 0, ("fresh", 1), ("fresh", 3)), (0, 2, 0, ("fresh", 1), ("fresh", 3)), (0, 2, 1, ("fresh", 1), ("long", 2, 1, 3)),
         (0, 0, 1, ("fresh", 1), ("fresh", 3)), (0, 0, 3, ("resolving", 1, 2, 1), ("resolving", 1, 3, 3)), (2, 4, 2, ("urgent", 2), ("long", 1, 1, 255)),
     ):
-        box = holding(short, long, H, N, RQ1)
+        box = having(short, long, H, N, RQ1)
         for pick in (1, 2, 1):
             box = heard_alone(box, pick)
     for short, long in (
@@ -777,7 +824,7 @@ def data_of_two():
         (("resolving", 1, 1, 1), ("resolving", 1, 2, 3)),
     ):
         for owner in (0, 923):
-            heard_alone(heard_alone(at(holding(short, long), 5, owning(p5=owner)), 1), 2)
+            heard_alone(heard_alone(at(having(short, long), 5, owning(p5=owner)), 1), 2)
 
 
 def lives_of_two():
@@ -915,6 +962,207 @@ def own_not_alone():
             in_step(box, listening(m, 1), row, 0, 1)
 
 
+# ---- held messages
+
+# each condition that a short and a long record can be in; any two of them are within the limits of the queues below
+SHORT_ONES = (UNUSED, ("held", 1), ("fresh", 1), ("asked", 1, 1, 1), ("resolving", 1, 1, 1), ("urgent", 1))
+LONG_ONES = (UNUSED, ("held", 4), ("fresh", 3), ("asked", 2, 2, 5), ("resolving", 2, 1, 255), ("long", 1, 3, 3))
+QUEUES = (2, 2, 1, 1, 3, 1, 1, True, 0)
+
+
+def holds():
+    """A hold's total, 10, then 9, by the record that the length picks; offers to a record that is held, and holds of one that was offered."""
+    for size in (1, 48, 49, 96, 97, 12192, 12193, 12240, 0, 12241):
+        held(begin(3, 2, 7), size)
+    for calls in (
+        ((held, 49), (held, 10), (held, 0), (held, 12241), (held, 1), (held, 49), (offered, 48), (offered, 12240), (offered, 0), (offered, 12241)),
+        ((held, 48), (held, 48), (offered, 48), (held, 0), (offered, 12240), (held, 12241), (held, 1), (held, 49)),
+        ((offered, 48), (held, 48), (held, 0), (held, 12240), (held, 12241), (offered, 1), (offered, 49)),
+    ):
+        box = begin(2, 1, 5)
+        for call, size in calls:
+            box = call(box, size)
+
+
+def calls_in_every_pair():
+    """Offer, hold, commit and withdrawal on either record, whatever the two are: 10 before 9, 9 of a record in use, 22 of one that isn't held."""
+    for short in SHORT_ONES:
+        for long in LONG_ONES:
+            box = given(*QUEUES, short, long)
+            for size in (48, 49):
+                offered(box, size)
+                held(box, size)
+            for size in (0, 12241):
+                held(box, size)
+            for name in RECORDS:
+                committed(box, name)
+                withdrawn(box, name)
+
+
+def tried_outside(box):
+    """18 by each call on a message record: where 10 and 9 would come too, or 9, or 22, and where none would."""
+    for size in (0, 48, 49):
+        held(box, size)
+    for name in RECORDS:
+        committed(box, name)
+        withdrawn(box, name)
+
+
+def outside_limits_of_holds():
+    """18 by a held message's total, tried by every call; then 18 by the other limits; and held messages that are just within."""
+    for short, long in (
+        (("held", 0), UNUSED), (("held", 2), UNUSED), (("held", 255), UNUSED), (UNUSED, ("held", 0)), (UNUSED, ("held", 1)),
+        (("held", 1), ("held", 1)), (("held", 2), ("held", 2)), (("held", 2), ("held", 1)), (("held", 2), ("fresh", 2)), (("urgent", 1), ("held", 1)),
+        (("long", 1, 3, 3), ("held", 3)), (("held", 1), ("urgent", 1)),
+    ):
+        box = given(*QUEUES, short, long)
+        tried_outside(box)
+        offered(box, 0)
+        slotted(box, [EMPTY], 0)
+        calendared(box, FULL)
+    for values in (
+        (1, 1, 1, 0, 0, 0, 0, True, 0), (2, 9, 1, 0, 0, 0, 0, True, 0), (2, 1, 2, 0, 0, 0, 0, True, 0), (2, 1, 1, 4096, 0, 0, 0, True, 0),
+        (2, 1, 1, 0, 0, 4096, 0, True, 0), (2, 1, 1, 0, 0, 0, 1, True, 0), (2, 1, 1, 0, 0, 0, 0, True, 924),
+    ):
+        tried_outside(given(*values, ("held", 1), ("held", 2)))
+    for short, long in (
+        (("held", 1), ("fresh", 1)), (("held", 1), ("asked", 3, 1, 5)), (("held", 1), ("resolving", 1, 2, 5)), (("held", 1), ("long", 2, 3, 3)),
+        (("fresh", 2), ("held", 2)), (("asked", 1, 3, 1), ("held", 2)), (("resolving", 2, 2, 1), ("held", 2)), (("urgent", 2), ("held", 2)),
+        (("asked", 1, 1, 1), ("asked", 1, 2, 5)), (("resolving", 1, 1, 1), ("resolving", 1, 1, 5)),
+    ):
+        tried_outside(given(*QUEUES, short, long))
+    for position, entries in ((24, NOBODY), (0, owning(p23=924)), (0, FULL)):
+        tried_outside(at(given(*QUEUES, ("held", 1), ("held", 2)), position, entries))
+    for total in (2, 255):
+        tried_outside(given(*QUEUES, ("held", 1), ("held", total)))
+
+
+def own_hearing_of_held():
+    """A held message listens for nothing: its box must hear itself as Single nowhere, or only where its other message is asked."""
+    mine, reel = (63, 1), (63, 3)
+    for short, long, rows in (
+        (("held", 1), UNUSED, ([mine, EMPTY], [EMPTY, reel], [(127, 1), EMPTY], [EMPTY, (95, 1)])),
+        (UNUSED, ("held", 3), ([mine, EMPTY], [EMPTY, reel], [(127, 3), EMPTY], [EMPTY, (95, 3)])),
+        (("held", 1), ("held", 3), ([mine, EMPTY], [EMPTY, reel], SILENT)),
+        (("held", 1), ("asked", 1, 2, 3), ([EMPTY, reel], [EMPTY, mine], [mine, reel], [mine, EMPTY], SILENT, [EMPTY, (127, 3)])),
+        (("asked", 1, 2, 1), ("held", 3), ([EMPTY, mine], [EMPTY, reel], [reel, mine], [reel, EMPTY], SILENT, [EMPTY, (127, 1)])),
+    ):
+        for row in rows:
+            slotted(having(short, long), row, 1)
+
+
+def held_in_every_turn():
+    """Slots of every turn while one record is held and the other is in each condition: the queues are its own or longer, and a position may be owned."""
+    for H, N, RQ1, owner in ((0, 0, 0, FREE), (0, 0, 1, FREE), (2, 0, 0, FREE), (1, 4, 1, FREE), (0, 4, 0, FREE), (0, 0, 0, 0), (1, 2, 1, 923)):
+        for short, long in (
+            *[(("held", 1), long) for long in (
+                UNUSED, ("fresh", 3), ("asked", 1, 2, 3), ("asked", 2, 1, 3), ("resolving", 1, 1, 3), ("resolving", 1, 2, 3), ("resolving", 2, 1, 3), ("long", 1, 2, 3), ("long", 3, 3, 3))],
+            *[(short, ("held", 3)) for short in (
+                UNUSED, ("fresh", 1), ("asked", 1, 2, 1), ("asked", 2, 1, 1), ("resolving", 1, 1, 1), ("resolving", 1, 2, 1), ("resolving", 2, 1, 1), ("urgent", 1), ("urgent", 2))],
+            (("held", 1), ("held", 3)),
+        ):
+            box = having(short, long, H, N, RQ1)
+            if owner != FREE:
+                box = at(box, 5, owning(p5=owner))
+            heard_alone(heard_alone(box, 1), 2)
+
+
+def held_beside_fresh():
+    """A held short message keeps no fresh long one from asking, nor a held long one a fresh short one; once committed, the short one asks first."""
+    for first, second, name in ((10, 100, "short"), (100, 10, "long")):
+        for hold_first in (True, False):
+            box = begin(2, 1, 0)
+            box = offered(held(box, first), second) if hold_first else held(offered(box, second), first)
+            for pick in (2, 1, 1):
+                box = heard_alone(box, pick)
+            box = committed(box, name)
+            for pick in (1, 2, 1, 1):
+                box = heard_alone(box, pick)
+    for order in (RECORDS, RECORDS[::-1]):
+        box = held(held(begin(2, 2, 0), 100), 10)
+        for name in order:
+            box = committed(box, name)
+        for pick in (2, 1, 1, 2):
+            box = heard_alone(box, pick)
+    # the long one is fresh and waits for a resolution; the short one is committed meanwhile, and asks first
+    box = heard_alone(having(("held", 1), ("fresh", 3), RQ1=2), 1)
+    box = committed(box, "short")
+    for pick in (1, 2, 1, 2):
+        box = heard_alone(box, pick)
+
+
+def other_record_lives():
+    """One record is held from the first slot on, through every turn, while a message of the other lives through all its conditions; then it is committed."""
+    word, collide, twice = WORDS[0], (127, 0), [(95, 1), (111, 1)]
+    for first, second, name, total in ((48, 97, "short", 3), (97, 48, "long", 1)):
+        box = offered(held(begin(2, 1, 0), first), second)
+        for row, pick in (
+            ([collide, collide], 1), (SILENT, 1), (SILENT, 2), ([collide, (127, total)], 1), (twice, 1), ([(word, total), EMPTY], 1), ([(95, 2), EMPTY], 1),
+        ):
+            box = slotted(box, row, pick)
+        box = calendared(box, owning(p7=0, p8=923))
+        for _ in range(7):
+            box = slotted(box, SILENT, 1)
+        box = committed(box, name)
+        for pick in (2, 1, 1, 1, 1):
+            box = heard_alone(box, pick)
+
+
+def lives_of_held():
+    """Held, then slots, then committed; withdrawn and held again; committed or withdrawn a second time; committed in a slot that is owned."""
+    for size, name in ((48, "short"), (100, "long")):
+        box = slotted(slotted(held(begin(2, 1, 0), size), SILENT, 1), [(95, 1), EMPTY], 2)
+        box = committed(box, name)
+        for call in (committed, withdrawn):
+            box = call(box, name)
+        for pick in (2, 1, 1, 1, 1):
+            box = heard_alone(box, pick)
+        box = held(committed(box, name), size)
+        box = slotted(withdrawn(box, name), SILENT, 1)
+        for call in (withdrawn, committed):
+            box = call(box, name)
+        box = withdrawn(held(box, size), name)
+        box = committed(held(box, size - 1), name)
+        for pick in (1, 2, 1, 1, 1):
+            box = heard_alone(box, pick)
+        offered(withdrawn(held(box, size), name), size)
+    for size, name in ((10, "short"), (49, "long")):
+        box = calendared(held(begin(2, 1, 0), size), owning(p0=0, p1=0, p2=9, p3=0))
+        box = committed(slotted(box, SILENT, 1), name)
+        for pick in (2, 1, 1, 1, 1):
+            box = heard_alone(box, pick)
+    # a refused slot and a refused calendar leave it
+    box = held(held(begin(2, 1, 0), 1), 49)
+    for row, pick in (([EMPTY], 1), (SILENT, 3), ([(4096, 0), EMPTY], 1), ([(95, 0), EMPTY], 1), ([EMPTY, (0, 1)], 1), ([(63, 1), EMPTY], 1)):
+        box = slotted(box, row, pick)
+    for entries in (owning(p0=924), FULL):
+        box = calendared(box, entries)
+
+
+def held_and_committed_at_once():
+    """A hold followed by its commit, and an offer in its place: the same slots, and the same record."""
+    for size, name, boxes in ((48, "short", [(UNUSED, long) for long in LONG_ONES]), (49, "long", [(short, UNUSED) for short in SHORT_ONES])):
+        for short, long in boxes:
+            box = given(*QUEUES, short, long)
+            one, other = offered(box, size), committed(held(box, size), name)
+            assert one == other
+
+
+def held_beside_a_listener():
+    """Holds, commits and a withdrawal between the rows of a recording; a listener hears the same rows."""
+    recording = [EMPTY, EMPTY, (127, 1), EMPTY, (63, 1), EMPTY, EMPTY, (63, 3), (95, 1), EMPTY, EMPTY]
+    box = held(offered(begin(2, 1, 0), 10), 100)
+    ear = listening(2, 1)
+    for place, pick in ((0, 1), (2, 1), (4, 2)):
+        box = in_step(box, ear, recording, place, pick)
+    box = held(committed(box, "long"), 1)
+    for place, pick in ((0, 2), (6, 1)):
+        box = in_step(box, ear, recording, place, pick)
+    box = withdrawn(box, "short")
+    for place, pick in ((8, 1), (9, 1), (9, 1), (9, 1)):
+        box = in_step(box, ear, recording, place, pick)
+
+
 def main():
     starts()
     offers()
@@ -942,6 +1190,16 @@ def main():
     short_among_long()
     own_among_long()
     own_not_alone()
+    holds()
+    calls_in_every_pair()
+    outside_limits_of_holds()
+    own_hearing_of_held()
+    held_in_every_turn()
+    held_beside_fresh()
+    other_record_lives()
+    lives_of_held()
+    held_and_committed_at_once()
+    held_beside_a_listener()
 
 
 if __name__ == "__main__":

@@ -7,11 +7,11 @@ use Rattle.decimals.specs.Decimal.{digitsOf}
 use Rattle.decimals.specs.Printing.{recordOf}
 use Rattle.forms.specs.Form.{formOf, leftOf}
 use Rattle.turn_letters.specs.Letters.{letterOf}
-use Rattle.call_records.specs.Words.{offerWord, calendarWord}
+use Rattle.call_records.specs.Words.{offerWord, holdWord, commitWord, withdrawWord, calendarWord}
 use Rattle.rules.specs.declared.Counters.{Counters}
 use Rattle.rules.specs.declared.Turn.{Turn}
 use Rattle.rules.specs.declared.Turn.the-variants as turn
-use Rattle.rules.specs.declared.Answer.the-variants.{Refused, Taken, Set, Went}
+use Rattle.rules.specs.declared.Answer.the-variants.{Refused, Taken, OnHold, Committed, Withdrawn, Set, Went}
 use Rattle.answer_lines.specs.AnswerLines.{headerOf, refusedWord, answerLine}
 
 -- `call,kind,group,turn,senders,index,segment,delivered,H,N,RQ`
@@ -33,6 +33,18 @@ module _ (k group : ℕ) (c : Counters) where
   pub offer-form : (total : ℕ) → formOf (35 ∷ 44 ∷ offerWord) (k ∷ total ∷ []) ≡ answerLine k group c (Taken total)
   unfolding formOf leftOf answerLine recordOf
   offer-form total = refl
+
+  pub hold-form : (total : ℕ) → formOf (35 ∷ 44 ∷ holdWord) (k ∷ total ∷ []) ≡ answerLine k group c (OnHold total)
+  unfolding formOf leftOf answerLine recordOf
+  hold-form total = refl
+
+  pub commit-form : (total : ℕ) → formOf (35 ∷ 44 ∷ commitWord) (k ∷ total ∷ []) ≡ answerLine k group c (Committed total)
+  unfolding formOf leftOf answerLine recordOf
+  commit-form total = refl
+
+  pub withdraw-form : (total : ℕ) → formOf (35 ∷ 44 ∷ withdrawWord) (k ∷ total ∷ []) ≡ answerLine k group c (Withdrawn total)
+  unfolding formOf leftOf answerLine recordOf
+  withdraw-form total = refl
 
   pub calendar-form : formOf (35 ∷ 44 ∷ calendarWord) (k ∷ []) ≡ answerLine k group c Set
   unfolding formOf leftOf answerLine recordOf

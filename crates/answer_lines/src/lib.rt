@@ -7,8 +7,10 @@ use rules::Counters;
 use rules::Turn;
 use turn_letters::letter;
 ghost use mathlib.Core.Path.{_≡_};
+ghost use mathlib.Core.List.{[], _∷_};
 ghost use Rattle.rules.specs.declared.Answer.the-variants.{Went};
 ghost use Rattle.decimals.specs.Putting.{putAt, placeAfter};
+ghost use Rattle.forms.specs.Form.{formOf};
 ghost use Rattle.answer_lines.specs.AnswerLines.{headerOf, answerLine};
 
 // The header line, at place at if it fits there; gives the place after it, or at.
@@ -67,6 +69,15 @@ fn put_slot(
     put_form(out, at, &form, &values)
 }
 
+// The line of an answer that is one number: form, a mark for the call's number and then the answer's word.
+fn put_number(out: &mut [u8], at: usize, call: u64, form: &[u8], number: u8) -> usize
+    ensures buffer { λ r. ⌜ now (out .exit) ≡ putAt (now (out .entry)) at (formOf (now (form .entry)) (call ∷ number ∷ [])) ⌝ }
+    ensures reached { λ r. ⌜ r ≡ placeAfter (now (out .entry)) at (formOf (now (form .entry)) (call ∷ number ∷ [])) ⌝ }
+{
+    let values = [call, number as u64];
+    put_form(out, at, form, &values)
+}
+
 // The line of an answer, at place at if it fits there; gives the place after it, or at.
 pub fn put_answer(
     out: &mut [u8],
@@ -80,14 +91,11 @@ pub fn put_answer(
     ensures reached { λ r. ⌜ r ≡ placeAfter (now (out .entry)) at (answerLine call group c answer) ⌝ }
 {
     match answer {
-        Answer::Refused(number) => {
-            let values = [call, number as u64];
-            put_form(out, at, b"#,refused", &values)
-        }
-        Answer::Taken(total) => {
-            let values = [call, total as u64];
-            put_form(out, at, b"#,offer", &values)
-        }
+        Answer::Refused(number) => put_number(out, at, call, b"#,refused", number),
+        Answer::Taken(total) => put_number(out, at, call, b"#,offer", total),
+        Answer::OnHold(total) => put_number(out, at, call, b"#,hold", total),
+        Answer::Committed(total) => put_number(out, at, call, b"#,commit", total),
+        Answer::Withdrawn(total) => put_number(out, at, call, b"#,withdraw", total),
         Answer::Set => {
             let values = [call];
             put_form(out, at, b"#,calendar", &values)

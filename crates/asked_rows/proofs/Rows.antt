@@ -17,7 +17,7 @@ use Rattle.minislot.specs.declared.Minislot.{Minislot}
 use Rattle.requests.specs.Together.{Request, carries, silent, joined, together, placed}
 use Rattle.requests.proofs.Senders.{joined-comm, joined-silent, together-append}
 use Rattle.rules.specs.declared.Condition.{Condition}
-use Rattle.rules.specs.declared.Condition.the-variants.{Free, Fresh, Asked, Resolving, Urgent, Long}
+use Rattle.rules.specs.declared.Condition.the-variants.{Free, Held, Fresh, Asked, Resolving, Urgent, Long}
 use Rattle.rules.specs.declared.TableMessage.{TableMessage}
 use Rattle.channel_rules.specs.Soundness.{askedRequest, askedRequests}
 use Rattle.asked_rows.specs.declared.WireRequest.{WireRequest}
@@ -81,6 +81,7 @@ module _ (g : ℕ) (l : List WireRequest) (i : ℕ) (d : WireRequest) (h : i < l
 
 request-asked : (g j index : ℕ) (k : Condition) → gatherOf (requestAt g j) (requestDrawn (record { index = index; condition = k })) ≡ askedRequest g j index k
 request-asked g j index Free = refl
+request-asked g j index (Held t) = refl
 request-asked g j index (Fresh t) = refl
 request-asked g j index (Asked h i t) = append-nil (onlyIf (eqb h g && eqb i j) (record { index = index; total = t } ∷ []))
 request-asked g j index (Resolving h i t) = refl

@@ -9,7 +9,7 @@ use Rattle.minislot.specs.declared.Minislot.{Minislot}
 use Rattle.requests.specs.Together.{Request, carries, together}
 use Rattle.rules.specs.declared.TableMessage.{TableMessage}
 use Rattle.rules.specs.declared.Condition.{Condition}
-use Rattle.rules.specs.declared.Condition.the-variants.{Free, Fresh, Asked, Resolving, Urgent, Long}
+use Rattle.rules.specs.declared.Condition.the-variants.{Free, Held, Fresh, Asked, Resolving, Urgent, Long}
 use Rattle.asked_rows.specs.declared.FoundRequest.{FoundRequest}
 use Rattle.asked_rows.specs.declared.WireRequest.{WireRequest}
 use Rattle.asked_rows.specs.declared.DrawnRequests.{DrawnRequests}
@@ -25,6 +25,7 @@ notAsked = record { found = false; request = noRequest }
 -- the request of a condition, for a station's index
 abbrev pub requestFound : ℕ → Condition → FoundRequest
 requestFound index Free = notAsked
+requestFound index (Held t) = notAsked
 requestFound index (Fresh t) = notAsked
 requestFound index (Asked g j t) = record { found = true; request = record { group = g; minislot = j; index = index; total = t } }
 requestFound index (Resolving g i t) = notAsked

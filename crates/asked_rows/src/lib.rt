@@ -64,6 +64,7 @@ fn asking(index: u16, condition: Condition) -> FoundRequest
         Condition::Resolving { .. } => NOT_ASKED,
         Condition::Urgent { .. } => NOT_ASKED,
         Condition::Long { .. } => NOT_ASKED,
+        Condition::Held { .. } => NOT_ASKED,
     }
 }
 

@@ -29,6 +29,9 @@ fn digest_of(answer: Answer) -> u64 {
     match answer {
         Answer::Refused(number) => number as u64,
         Answer::Taken(total) => total as u64 + 100,
+        Answer::OnHold(total) => total as u64 + 400,
+        Answer::Committed(total) => total as u64 + 700,
+        Answer::Withdrawn(total) => total as u64 + 1000,
         Answer::Set => 99,
         Answer::Went {
             turn: _,

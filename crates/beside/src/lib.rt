@@ -22,6 +22,7 @@ fn is_fresh(k: Condition) -> bool
         Condition::Resolving { .. } => false,
         Condition::Urgent { .. } => false,
         Condition::Long { .. } => false,
+        Condition::Held { .. } => false,
     }
 }
 

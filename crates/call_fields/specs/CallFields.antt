@@ -1,5 +1,5 @@
--- The numbers of a start and of an offer, by the parts between a record's commas. A number that its parameter can't hold (m or n above 255,
--- an index above 65,535) breaks the record, as a part that is no number does: it is answered 19. Assumes nothing.
+-- The numbers of a start, and of an offer or a hold, by the parts between a record's commas. A number that its parameter can't hold (m or
+-- n above 255, an index above 65,535) breaks the record, as a part that is no number does: it is answered 19. Assumes nothing.
 use mathlib.Core.Bool.{cond, _&&_}
 use mathlib.Core.List.{List, [], _∷_}
 use Prim.Native.Nat.{ℕ}
@@ -11,7 +11,7 @@ use Rattle.call_fields.specs.declared.OfferFields.{OfferFields}
 use Rattle.call_fields.specs.declared.OfferFields.the-variants.{Numbers, Broken}
 use Rattle.call_fields.specs.declared.StartFields.{StartFields}
 
--- AN OFFER: two parts, the index and the bytes
+-- AN OFFER OR A HOLD: two parts, the index and the bytes
 unfoldable pub offerIn : List (List ℕ) → OfferFields
 offerIn [] = Broken
 offerIn (i ∷ []) = Broken

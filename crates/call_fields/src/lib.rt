@@ -1,4 +1,4 @@
-// Reading the numbers of a start and of an offer from a record of `rehearse`, which is handed over without its CR LF.
+// Reading the numbers of a start, and of an offer or a hold, from a record of `rehearse`, which is handed over without its CR LF.
 use fields::Field;
 use fields::field_at;
 use number_lists::NumberList;
@@ -10,7 +10,7 @@ ghost use lib.ListN.{drop};
 ghost use Rattle.fields.specs.Fields.{parts};
 ghost use Rattle.call_fields.specs.CallFields.{offerIn, startIn, startWith, brokenStart};
 
-// An offer's index and bytes, or number 19.
+// An offer's or a hold's index and bytes, or number 19.
 pub enum OfferFields {
     Numbers(u16, u32),
     Broken,
@@ -24,7 +24,7 @@ pub struct StartFields {
     pub indexes: NumberList,
 }
 
-// The two numbers of an offer, whose fields begin at place start.
+// The two numbers of an offer or a hold, whose fields begin at place start.
 pub fn offer_fields(bytes: &[u8], start: usize) -> OfferFields
     ensures { λ r. ⌜ r ≡ offerIn (parts (drop start (now (bytes .entry)))) ⌝ }
 {

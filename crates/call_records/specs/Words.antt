@@ -1,12 +1,13 @@
--- The word that a record of `rehearse` begins with: `offer,`, `slot,` or `calendar,` with numbers after it, or `slot` or `show` alone.
--- Bytes are numbers: letters are ASCII, the comma is 44. Assumes nothing.
+-- The word that a record of `rehearse` begins with: `offer,`, `hold,`, `slot,` or `calendar,` with numbers after it, `commit,` or
+-- `withdraw,` with a number and a word after it, or `slot` or `show` alone. Bytes are numbers: letters are ASCII, the comma is 44.
+-- Assumes nothing.
 use mathlib.Core.Bool.{Bool, true, false, cond, _&&_}
 use mathlib.Core.List.{List, [], _∷_}
 use Prim.Native.Nat.{ℕ}
 use lib.Dec.{eqb}
 use lib.ListN.{length}
 use Rattle.call_records.specs.declared.Kind.{Kind}
-use Rattle.call_records.specs.declared.Kind.the-variants.{Offer, Slot, BareSlot, Calendar, Show, Unknown}
+use Rattle.call_records.specs.declared.Kind.the-variants.{Offer, Hold, Commit, Withdraw, Slot, BareSlot, Calendar, Show, Unknown}
 
 -- whether a list begins with a word
 unfoldable pub prefixed : List ℕ → List ℕ → Bool
@@ -32,6 +33,27 @@ offerStart = 111 ∷ 102 ∷ 102 ∷ 101 ∷ 114 ∷ 44 ∷ []
 abbrev pub slotStart : List ℕ
 slotStart = 115 ∷ 108 ∷ 111 ∷ 116 ∷ 44 ∷ []
 
+-- `hold` and `hold,`
+abbrev pub holdWord : List ℕ
+holdWord = 104 ∷ 111 ∷ 108 ∷ 100 ∷ []
+
+abbrev pub holdStart : List ℕ
+holdStart = 104 ∷ 111 ∷ 108 ∷ 100 ∷ 44 ∷ []
+
+-- `commit` and `commit,`
+abbrev pub commitWord : List ℕ
+commitWord = 99 ∷ 111 ∷ 109 ∷ 109 ∷ 105 ∷ 116 ∷ []
+
+abbrev pub commitStart : List ℕ
+commitStart = 99 ∷ 111 ∷ 109 ∷ 109 ∷ 105 ∷ 116 ∷ 44 ∷ []
+
+-- `withdraw` and `withdraw,`
+abbrev pub withdrawWord : List ℕ
+withdrawWord = 119 ∷ 105 ∷ 116 ∷ 104 ∷ 100 ∷ 114 ∷ 97 ∷ 119 ∷ []
+
+abbrev pub withdrawStart : List ℕ
+withdrawStart = 119 ∷ 105 ∷ 116 ∷ 104 ∷ 100 ∷ 114 ∷ 97 ∷ 119 ∷ 44 ∷ []
+
 -- `calendar` and `calendar,`
 abbrev pub calendarWord : List ℕ
 calendarWord = 99 ∷ 97 ∷ 108 ∷ 101 ∷ 110 ∷ 100 ∷ 97 ∷ 114 ∷ []
@@ -48,7 +70,10 @@ unfoldable pub kindOf : List ℕ → Kind
 kindOf bytes =
     cond (prefixed slotStart bytes) Slot
     (cond (prefixed offerStart bytes) Offer
+    (cond (prefixed holdStart bytes) Hold
+    (cond (prefixed commitStart bytes) Commit
+    (cond (prefixed withdrawStart bytes) Withdraw
     (cond (prefixed calendarStart bytes) Calendar
     (cond (isWord showWord bytes) Show
     (cond (isWord slotWord bytes) BareSlot
-    Unknown))))
+    Unknown)))))))

@@ -2,10 +2,13 @@
 ghost use mathlib.Core.Path.{_≡_};
 ghost use Rattle.call_records.specs.Words.{prefixed, isWord, kindOf};
 
-// The call that a record asks for: an offer, a slot, a slot with no picks, to set a calendar, or to be shown the channel; or it is
-// no call.
+// The call that a record asks for: an offer, a hold, a commit, a withdrawal, a slot, a slot with no picks, to set a calendar, or to be
+// shown the channel; or it is no call.
 pub enum Kind {
     Offer,
+    Hold,
+    Commit,
+    Withdraw,
     Slot,
     BareSlot,
     Calendar,
@@ -30,8 +33,8 @@ fn begins_with(bytes: &[u8], word: &[u8]) -> bool
     true
 }
 
-// Whether a record is these bytes and no more.
-fn is_word(bytes: &[u8], word: &[u8]) -> bool
+// Whether a record, or a part of one, is these bytes and no more.
+pub fn is_word(bytes: &[u8], word: &[u8]) -> bool
     ensures { λ r. ⌜ r ≡ isWord (now (word .entry)) (now (bytes .entry)) ⌝ }
 {
     if bytes.len() != word.len() {
@@ -49,6 +52,15 @@ pub fn kind_of(bytes: &[u8]) -> Kind
     }
     if begins_with(bytes, b"offer,") {
         return Kind::Offer;
+    }
+    if begins_with(bytes, b"hold,") {
+        return Kind::Hold;
+    }
+    if begins_with(bytes, b"commit,") {
+        return Kind::Commit;
+    }
+    if begins_with(bytes, b"withdraw,") {
+        return Kind::Withdraw;
     }
     if begins_with(bytes, b"calendar,") {
         return Kind::Calendar;

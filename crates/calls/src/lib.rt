@@ -19,13 +19,13 @@ pub struct StartReply {
     pub wire: [WireRow; 8],
 }
 
-// What an offer, a calendar or a slot comes back with: its answer, and the wire after it (as it came where the call is refused).
+// What a writing, a calendar or a slot comes back with: its answer, and the wire after it (as it came where the call is refused).
 pub struct CallReply {
     pub answer: Answer,
     pub wire: [WireRow; 8],
 }
 
-// What an offer or a calendar comes to, on a copy of the table: the records to be written over the table (none where it is refused), and
+// What a writing or a calendar comes to, on a copy of the table: the records to be written over the table (none where it is refused), and
 // its reply.
 pub struct Decided {
     pub loaded: Loaded,

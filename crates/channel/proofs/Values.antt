@@ -5,6 +5,8 @@ use denote.Laws.{Is}
 use denote.Struct.Laws as LL
 use Rattle.rules.proofs.WireRow as W
 use Rattle.rules.proofs.WireRow.Laws as W′
+use Rattle.rules.proofs.Writing as E
+use Rattle.rules.proofs.Writing.Laws as E′
 use Rattle.rules.proofs.Outcome as T
 use Rattle.rules.proofs.Outcome.Laws as T′
 use Rattle.rules.proofs.Sent as N
@@ -23,12 +25,16 @@ use Rattle.calls.specs.declared.Decided.{Decided}
 use Rattle.calls.proofs.Decided as D
 use Rattle.calls.proofs.Decided.Laws as D′
 use mir.Syntax.{w16}
-use Rattle.table.proofs.DataKinds.{Kind, vals, of-struct, of-array, of-uint}
+use Rattle.table.proofs.DataKinds.{Kind, vals, of-struct, of-enum, of-array, of-uint}
 use Rattle.table.proofs.Values.{loaded}
 
 -- the wire, an array of rows
 abbrev pub wire : Kind
 wire = of-array (of-struct W.the-type W′.the-laws W′.the-plain W′.the-copy) 8
+
+-- what is written
+abbrev pub writing : Kind
+writing = of-enum E.the-type E′.the-laws E′.the-plain E′.the-copy tt
 
 -- the entries of a calendar
 abbrev pub entries : Kind

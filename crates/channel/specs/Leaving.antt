@@ -11,6 +11,6 @@ use Rattle.calls.specs.ByValue.{channelOf}
 abbrev pub leavesStarted : List Station → StartReply → ChannelStarted
 leavesStarted stations r = record { state = channelOf stations (r .wire); answer = r .answer }
 
--- an offer, a calendar or a slot
+-- a writing, a calendar or a slot
 abbrev pub leaves : List Station → CallReply → ChannelResult
 leaves stations r = record { state = channelOf stations (r .wire); answer = r .answer }

@@ -1,21 +1,23 @@
-// The channel: a table of stations that the caller lends, and a wire passed beside it; its start, its offers, its calendar and its slots.
-// What a call comes to is worked out by value on a copy of the table; the functions here, over the lent table, are few and thin.
+// The channel: a table of stations that the caller lends, and a wire passed beside it; its start, the calls that write a message record
+// of a station, its calendar and its slots. What a call comes to is worked out by value on a copy of the table; the functions here, over
+// the lent table, are few and thin.
 use calls::CallReply;
 use calls::StartReply;
-use offers::place_offer;
 use pass::step_all;
 use replying::reply;
 use rules::Station;
 use rules::WireRow;
+use rules::Writing;
 use settings::place_calendar;
 use slots::judge;
 use starts::begin;
 use table::load;
 use table::store;
+use writes::place_write;
 ghost use mathlib.Core.Path.{_≡_};
-ghost use Rattle.channel_rules.specs.ChannelCalls.{channelStartOf, channelOfferOf, channelCalendarOf, channelSlotOf};
+ghost use Rattle.channel_rules.specs.ChannelCalls.{channelStartOf, channelWriteOf, channelCalendarOf, channelSlotOf};
 ghost use Rattle.rules.specs.Numbers.{startTold, callTold};
-ghost use Rattle.channel_rules.specs.Answered.{channelStartToldOf, channelOfferToldOf, channelCalendarToldOf, channelSlotToldOf};
+ghost use Rattle.channel_rules.specs.Answered.{channelStartToldOf, channelWriteToldOf, channelCalendarToldOf, channelSlotToldOf};
 ghost use Rattle.calls.specs.ByValue.{channelOf};
 ghost use Rattle.channel.specs.Leaving.{leavesStarted, leaves};
 
@@ -32,17 +34,18 @@ pub fn start(table: &mut [Station], wire: [WireRow; 8], m: u8, n: u8, indexes: &
     b.reply
 }
 
-// Offers the station of an index a message of this many bytes. 14: not 1 to 64 stations. 18: the table is not sound. 16: no station of the
-// index. 10: 0 bytes or more than 12,240. 9: the message record that the length picks, up to 48 bytes the short one, is in use. A refusal
-// leaves table and wire as they were.
-pub fn offer(table: &mut [Station], wire: [WireRow; 8], index: u16, bytes: usize) -> CallReply
+// Writes one message record of the station of an index: an offer, a hold, a commit or a withdrawal. 14: not 1 to 64 stations. 18: the
+// table is not sound. 16: no station of the index. An offer and a hold: 10, 0 bytes or more than 12,240; 9, the message record that the
+// length picks, up to 48 bytes the short one, is in use. A commit and a withdrawal: 22, the message record that is named isn't held. A
+// refusal leaves table and wire as they were; the wire is never altered.
+pub fn write(table: &mut [Station], wire: [WireRow; 8], index: u16, w: Writing) -> CallReply
     ensures { λ r. ⌜
-        (leaves (now (table .exit)) r ≡ channelOfferOf (channelOf (now (table .entry)) wire) index bytes)
-        × (callTold (r .answer) ≡ channelOfferToldOf (channelOf (now (table .entry)) wire) index bytes)
+        (leaves (now (table .exit)) r ≡ channelWriteOf (channelOf (now (table .entry)) wire) index w)
+        × (callTold (r .answer) ≡ channelWriteToldOf (channelOf (now (table .entry)) wire) index w)
         ⌝ }
 {
     let d = load(table);
-    let o = place_offer(d, wire, index, bytes);
+    let o = place_write(d, wire, index, w);
     store(table, o.loaded);
     o.reply
 }

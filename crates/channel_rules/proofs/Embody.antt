@@ -14,7 +14,7 @@ use Rattle.rules.specs.declared.Station.{Station}
 use Rattle.listlaws.specs.Lists.{each, onlyIf}
 use Rattle.rules.specs.Limits.{between}
 use Rattle.rules.specs.declared.Condition.{Condition}
-use Rattle.rules.specs.declared.Condition.the-variants.{Free, Fresh, Asked, Resolving, Urgent, Long}
+use Rattle.rules.specs.declared.Condition.the-variants.{Free, Held, Fresh, Asked, Resolving, Urgent, Long}
 use Rattle.rules.specs.StationCalls.{noStation}
 use Rattle.channel_rules.specs.Soundness.{positionOf}
 use Rattle.channel_rules.specs.ChannelCalls.{Channel, ChannelResult, blankRow, loneIndex, loneSegment, deliveredNow}
@@ -59,6 +59,7 @@ pub record GoodStart (S : Start) : Type 0 where
 
 pub fits-placed : (S : Start) (m : Message) (c : Condition) → Fits S m c → Placed c
 fits-placed S m Free f = tt
+fits-placed S m (Held t) f = tt
 fits-placed S m (Fresh t) f = tt
 fits-placed S m (Asked g j t) f = f .3
 fits-placed S m (Resolving g i t) f = f .3
@@ -71,6 +72,7 @@ AsksOne g j k c = (askedSender g j k c ≡ []) ⊎ ((v : ℕ) × (1 ≤ v) × (a
 
 asks-one : (S : Start) (p : Plain) (k : ℕ) (m : Message) (g j : ℕ) (c : Condition) → Agrees S p k m c → AsksOne g j k c
 asks-one S p k m g j Free a = inl refl
+asks-one S p k m g j (Held t) a = inl refl
 asks-one S p k m g j (Fresh t) a = inl refl
 asks-one S p k m g j (Asked h i t) a = go (eqb h g) (eqb i j)
   where

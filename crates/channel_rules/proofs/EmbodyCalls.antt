@@ -26,11 +26,13 @@ use Rattle.rules.specs.Turns.{turnOf}
 use Rattle.rules.specs.StationLimits.{shortWithin, longWithin, stationWithin}
 use Rattle.rules.specs.OwnHearing.{hearsItself}
 use Rattle.rules.specs.Refusing.{unless, byNumber}
-use Rattle.rules.specs.StationCalls.{noStation, takingNumberOf}
+use Rattle.rules.specs.StationCalls.{noStation}
+use Rattle.rules.specs.declared.Writing.{Writing}
+use Rattle.rules.specs.Writing.{writingNumberOf}
 use Rattle.rules.specs.Messages.{shortRecord, longRecord}
 use Rattle.channel_rules.specs.Soundness.{tableCounters, recordsWithin, positionOf, soundTable}
-use Rattle.channel_rules.specs.ChannelCalls.{Channel, ChannelResult, blankRow, hasStations, refused, stationOf, takenAt, channelOfferNumberOf, channelOfferOf, heardRow, feedbackHeard, slotsOf, slotsHeard, outcomeHeard, newRow, dataSent, sentOf, deliveredNow, slotAnswer, slotThrough, channelSlotNumberOf, channelSlotOf, channelCall}
-use Rattle.rules.specs.Calls.{Start, index, Call, Offer, Slot, Calendar}
+use Rattle.channel_rules.specs.ChannelCalls.{Channel, ChannelResult, blankRow, hasStations, refused, stationOf, writtenAt, channelWriteNumberOf, channelWriteOf, heardRow, feedbackHeard, slotsOf, slotsHeard, outcomeHeard, newRow, dataSent, sentOf, deliveredNow, slotAnswer, slotThrough, channelSlotNumberOf, channelSlotOf, channelCall}
+use Rattle.rules.specs.Calls.{Start, index, Call, Write, Slot, Calendar}
 use Rattle.rules.specs.Plain.{Plain, plainOwner, plainSettled, stationFrom, inRange}
 use Rattle.rules.proofs.QueueingLaws.{fits-cond}
 use Rattle.rules.proofs.Views.{Sender, eqb-self}
@@ -38,7 +40,7 @@ use Rattle.rules.proofs.Clauses.{asks, heeded, serves, ownedOr}
 use Rattle.rules.proofs.Records.{holder}
 use Rattle.rules.proofs.Parting.{apart-parted, settle-parted, fresh-settled}
 use Rattle.rules.proofs.RecordKinds.{fits-short, fits-long, one-sends, fresh-silent}
-use Rattle.rules.proofs.Shared.{Table, gather, pairOf, records, indexOf, askedSender, askedPair, tableHeld, senderIf, tableRefuse, tableOffer, tableRow, tablePlaces, tableSuccess, tableOwner, tableWent, tableSends, tableAnswer, tableSlot, tableSettled, tableCall, tableCondition}
+use Rattle.rules.proofs.Shared.{Table, gather, pairOf, records, indexOf, askedSender, askedPair, tableHeld, senderIf, tableRefuse, tableWrite, tableRow, tablePlaces, tableSuccess, tableOwner, tableWent, tableSends, tableAnswer, tableSlot, tableSettled, tableCall, tableCondition}
 use Rattle.rules.proofs.Relation.{Same}
 use Rattle.rules.proofs.ServeViews.{asks-fits}
 use Rattle.rules.proofs.SlotStep.{and-both, went-cong, owner-eq, settled-eq, turn-eq, segmentsSent, settled-fits, senders-eq, stands-inside}
@@ -51,7 +53,7 @@ use Rattle.channel_rules.proofs.EmbodySlot.{asData, sendersIn, Through,
 use Rattle.channel_rules.proofs.Gathering.{slots-length}
 use Rattle.channel_rules.proofs.SoundTests.{sound-tests}
 use Rattle.channel_rules.proofs.Embody.{Embodies, Embodied, GoodStart, fits-placed, asks-once, positionIn, position-map, position-eq, picks-same, one-served, both, names-are, feedback-is, station-at, same-length}
-use Rattle.channel_rules.proofs.EmbodyOffers.{offer-at}
+use Rattle.channel_rules.proofs.EmbodyWrites.{write-at}
 use Rattle.channel_rules.proofs.EmbodyCalendars.{TellsOf, tells-of, owner-station, as-plain, calendar-call}
 use Rattle.rules.specs.Outcome.{successes, outcomeBy, outcomeOf}
 
@@ -331,9 +333,9 @@ module _ (S : Start) (G : GoodStart S) (p : Plain) (t : Table) (R : Same S p t) 
           (λ c. slot-embodied (λ k. getD picks k 1) (λ k. picks-ok (S .m) (omega (arith, G .m-low)) picks er k .0) (λ k. picks-ok (S .m) (omega (arith, G .m-low)) picks er k .1) c picks el
           (λ i h. ap (λ (x : ℕ). getD picks x 1) (sym (zero-add i))))))
 
-  offer-call : (x bytes : ℕ) → Embodied S (tableCall S t (Offer x bytes)) (channelOfferOf ch x bytes)
-  unfolding channelOfferOf channelOfferNumberOf
-  offer-call x bytes =
+  write-call : (x : ℕ) (w : Writing) → Embodied S (tableCall S t (Write x w)) (channelWriteOf ch x w)
+  unfolding channelWriteOf channelWriteNumberOf
+  write-call x w =
       rw (here, sound, found)
       (go (ltb (positionOf x (ch .stations)) (length (ch .stations))) refl)
     where
@@ -347,12 +349,12 @@ module _ (S : Start) (G : GoodStart S) (p : Plain) (t : Table) (R : Same S p t) 
           position-eq x (S .indexes) 0 ∙ ap (λ (l : List ℕ). cond (ltb (positionIn x l) (length l)) (some (0 + positionIn x l)) none) (sym (E .indexes)) ∙ in-names (ch .stations)
 
       go : (b : Bool) → ltb (positionOf x (ch .stations)) (length (ch .stations)) ≡ b
-          → Embodied S (tableOffer t bytes (cond b (some (positionOf x (ch .stations))) none))
-          (byNumber (unless b 16 (takingNumberOf (stationOf ch x) bytes)) (refused ch) (takenAt ch (positionOf x (ch .stations)) bytes))
-      go true e = offer-at S t ch E (positionOf x (ch .stations)) (ltb-true (positionOf x (ch .stations)) (length (ch .stations)) e) bytes
+          → Embodied S (tableWrite t w (cond b (some (positionOf x (ch .stations))) none))
+          (byNumber (unless b 16 (writingNumberOf (stationOf ch x) w)) (refused ch) (writtenAt ch (positionOf x (ch .stations)) w))
+      go true e = write-at S t ch E (positionOf x (ch .stations)) (ltb-true (positionOf x (ch .stations)) (length (ch .stations)) e) w
       go false e = stay-put 16
 
   pub call-embodied : (c : Call) → Embodied S (tableCall S t c) (channelCall ch c)
-  call-embodied (Offer x bytes) = offer-call x bytes
+  call-embodied (Write x w) = write-call x w
   call-embodied (Slot picks) = slot-call picks
   call-embodied (Calendar entries) = calendar-call S t ch E entries here sound

@@ -15,7 +15,7 @@ use Rattle.rules.specs.declared.Station.{Station}
 use Rattle.rules.specs.declared.StationSlot.{StationSlot}
 use Rattle.listlaws.specs.Lists.{onlyIf}
 use Rattle.rules.specs.declared.Condition.{Condition}
-use Rattle.rules.specs.declared.Condition.the-variants.{Free, Fresh, Asked, Resolving, Urgent, Long}
+use Rattle.rules.specs.declared.Condition.the-variants.{Free, Held, Fresh, Asked, Resolving, Urgent, Long}
 use Rattle.rules.specs.declared.Places.{Places}
 use Rattle.rules.specs.declared.Turn.the-variants.{Urgent as UrgentTurn, Long as LongTurn, Resolve as ResolveTurn, Open as OpenTurn}
 use Rattle.rules.specs.Turns.{turnOf}
@@ -55,6 +55,7 @@ shown i j x = onlyIf (eqb (x .minislot) j) (record { index = i; total = totalOf 
 -- a message that is held back requests nothing, and one that is not fresh is never held back
 held-silent : (r g pick j k : ℕ) (c : Condition) → isFresh c ≡ true → requestSender true r g pick j k c ≡ []
 held-silent r g pick j k Free e = refl
+held-silent r g pick j k (Held t) e = refl
 held-silent zero g pick j k (Fresh t) e = refl
 held-silent (suc r) g pick j k (Fresh t) e = refl
 held-silent r g pick j k (Asked h i t) e = refl
@@ -64,6 +65,7 @@ held-silent r g pick j k (Long f l t) e = refl
 
 request-other : (r g pick j k : ℕ) (c : Condition) → isFresh c ≡ false → requestSender true r g pick j k c ≡ requestSender false r g pick j k c
 request-other r g pick j k Free e = refl
+request-other r g pick j k (Held t) e = refl
 request-other r g pick j k (Fresh t) e = absurd (no-true (sym e))
 request-other r g pick j k (Asked h i t) e = refl
 request-other zero g pick j k (Resolving h i t) e = refl
@@ -76,6 +78,7 @@ module _ (ix : ℕ → ℕ) (h n g pick j k : ℕ) (lo : 1 ≤ j) where
       → onlyIf (eqb (requestMinislot (requests r g c) pick) j) (record { index = ix k; total = totalOf (falls h n (asks false r g pick c)) } ∷ []) ≡ map (asRequest ix) (requestSender false r g pick j k c)
   unfolding requests
   request-is r Free = no-minislot j _ lo
+  request-is r (Held t) = no-minislot j _ lo
   request-is zero (Fresh t) = map-if (asRequest ix) (eqb pick j) (senderAt k t)
   request-is (suc r) (Fresh t) = rw (ne-eqb (suc r) 0 (λ e. omega arith)) (no-minislot j _ lo)
   request-is r (Asked x i t) = no-minislot j _ lo

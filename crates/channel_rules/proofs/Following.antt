@@ -9,7 +9,9 @@ use native.Mathlib.Omega.{arith}
 use native.Mathlib.Decide.{decLt}
 use lib.Dec.{eqb}
 use lib.ListN.{length, getD, length-append}
-use Rattle.message.specs.Message.{fitsMessage}
+use Rattle.message.specs.Message.{fitsMessage, slotsFor}
+use Rattle.rules.specs.declared.Writing.{Writing}
+use Rattle.rules.specs.declared.Writing.the-variants.{Offer, Hold, Commit, Withdraw}
 use Rattle.requests.specs.Together.{carries, silent, joined, together}
 use Rattle.requests.proofs.Senders.{joined-comm, joined-assoc, joined-silent}
 use Rattle.rules.specs.declared.Station.{Station}
@@ -17,10 +19,10 @@ use Rattle.listlaws.specs.Lists.{sumOf, countOf, keepIf}
 use Rattle.rules.specs.declared.Turn.{Turn}
 use Rattle.rules.specs.Serving.{waiting}
 use Rattle.rules.specs.declared.Answer.the-variants.{Refused, Went}
-use Rattle.rules.specs.Calls.{Start, Call, Offer, Slot, Calendar}
+use Rattle.rules.specs.Calls.{Start, Call, Write, Slot, Calendar}
 use Rattle.rules.specs.Messages.{Message, Segment, segment, of, recordOf}
 use Rattle.rules.proofs.Records.{holder-of}
-use Rattle.rules.specs.Plain.{Plain, PlainResult, Queues, plainOwner, plainSettled, overflows, sent, plainSenders, plainLoneIndex, plainLoneSegment, plainSet, among, onChannel, plainCall, plainSlot, plainOffer, plainAnswers, plainRefuse, plainAccept, waits, newcomer, stationFrom, inRange, joinAlone, joinMinislot, joinRow, plainSuccess, queuesOf, served, slotSum, plainAfter}
+use Rattle.rules.specs.Plain.{Plain, PlainResult, Queues, plainOwner, plainSettled, overflows, sent, plainSenders, plainLoneIndex, plainLoneSegment, plainSet, among, onChannel, plainCall, plainSlot, plainNew, plainOffer, plainHold, plainHeld, plainCommit, plainWithdraw, plainWriting, plainWrite, recordNamed, plainAnswers, plainRefuse, inUse, newcomer, stationFrom, inRange, joinAlone, joinMinislot, joinRow, plainSuccess, queuesOf, served, slotSum, plainAfter}
 use Rattle.channel_rules.specs.Demand3.{requestOf, noMessage, isRefusal, takenIn, deliveredIn, SendersAre}
 use Rattle.rules.proofs.Views.{Sender, requestFrom, dataFrom, seen, eqb-self, nil-cons}
 use Rattle.rules.proofs.Shared.{Table, gather, records, indexOf, askedSender, askedPair}
@@ -152,18 +154,31 @@ sender-rule S p picks turn n i s d e =
 -- ---- numbers that never come
 
 module _ (x : ℕ) (e7 : eqb 7 x ≡ false) (e9 : eqb 9 x ≡ false) (e10 : eqb 10 x ≡ false) (e11 : eqb 11 x ≡ false) (e16 : eqb 16 x ≡ false) (e17 : eqb 17 x ≡ false)
-    (e20 : eqb 20 x ≡ false) (e21 : eqb 21 x ≡ false) where
+    (e20 : eqb 20 x ≡ false) (e21 : eqb 21 x ≡ false) (e22 : eqb 22 x ≡ false) where
   never-call : (S : Start) (p : Plain) (c : Call) → isRefusal x (plainCall S p c .answer) ≡ false
-  never-call S p (Offer i bytes) = at (stationFrom 0 (S .indexes) i)
+  never-call S p (Write i w) = at (stationFrom 0 (S .indexes) i)
     where
-      go : (k : ℕ) (a b : Bool) → isRefusal x ((cond a (cond b (plainRefuse p 9) (plainAccept p (newcomer p k bytes))) (plainRefuse p 10)) .answer) ≡ false
-      go k true true = e9
-      go k true false = refl
-      go k false b = e10
+      new : (k bytes : ℕ) (done : Message → PlainResult) → isRefusal x (done (newcomer p k (slotsFor bytes)) .answer) ≡ false → isRefusal x (plainNew p k bytes done .answer) ≡ false
+      new k bytes done e = go (fitsMessage bytes) (inUse p (recordOf (newcomer p k (slotsFor bytes))))
+        where
+          go : (a b : Bool) → isRefusal x ((cond a (cond b (plainRefuse p 9) (done (newcomer p k (slotsFor bytes)))) (plainRefuse p 10)) .answer) ≡ false
+          go true true = e9
+          go true false = e
+          go false b = e10
 
-      at : (o : Option ℕ) → isRefusal x (plainOffer p bytes o .answer) ≡ false
+      held : (done : Message → PlainResult) → ((m : Message) → isRefusal x (done m .answer) ≡ false) → (l : List Message) → isRefusal x (plainHeld p done l .answer) ≡ false
+      held done e [] = e22
+      held done e (m ∷ l) = e m
+
+      writing : (k : ℕ) (w : Writing) → isRefusal x (plainWriting p k w .answer) ≡ false
+      writing k (Offer bytes) = new k bytes (plainOffer p) refl
+      writing k (Hold bytes) = new k bytes (plainHold p) refl
+      writing k (Commit o) = held (plainCommit p (recordNamed k o)) (λ m. refl) (of (recordNamed k o) (p .held))
+      writing k (Withdraw o) = held (plainWithdraw p (recordNamed k o)) (λ m. refl) (of (recordNamed k o) (p .held))
+
+      at : (o : Option ℕ) → isRefusal x (plainWrite p w o .answer) ≡ false
       at none = e16
-      at (some k) = go k (fitsMessage bytes) (waits p (recordOf (newcomer p k bytes)))
+      at (some k) = writing k w
   never-call S p (Slot picks) = go (eqb (length picks) (length (S .indexes))) (inRange (S .m) picks) (overflows (plainSettled p))
     where
       go : (a b c : Bool) → isRefusal x ((cond a (cond b (cond c (plainRefuse p 7) (plainSlot S (λ k. getD picks k 1) p)) (plainRefuse p 11)) (plainRefuse p 17)) .answer) ≡ false
@@ -212,8 +227,17 @@ booked-if : (p : Plain) (b : Bool) (x y : PlainResult) → Booked p x → Booked
 booked-if p true x y a c = a
 booked-if p false x y a c = c
 
-booked-accept : (p : Plain) (m : Message) → Booked p (plainAccept p m)
-booked-accept p m = record { taken = sum-append (p .taken) (m ∷ []) ∙ omega arith; delivered = omega arith }
+booked-offer : (p : Plain) (m : Message) → Booked p (plainOffer p m)
+booked-offer p m = record { taken = sum-append (p .taken) (m ∷ []) ∙ omega arith; delivered = omega arith }
+
+booked-hold : (p : Plain) (m : Message) → Booked p (plainHold p m)
+booked-hold p m = record { taken = omega arith; delivered = omega arith }
+
+booked-commit : (p : Plain) (k : ℕ) (m : Message) → Booked p (plainCommit p k m)
+booked-commit p k m = record { taken = sum-append (p .taken) (newcomer p (m .station) (m .slots) ∷ []) ∙ omega arith; delivered = omega arith }
+
+booked-withdraw : (p : Plain) (k : ℕ) (m : Message) → Booked p (plainWithdraw p k m)
+booked-withdraw p k m = record { taken = omega arith; delivered = omega arith }
 
 booked-set : (p : Plain) (entries : List ℕ) → Booked p (plainSet p entries)
 booked-set p entries = record { taken = omega arith; delivered = omega arith }
@@ -231,11 +255,24 @@ booked-slot S pick p =
     }
 
 booked-call : (S : Start) (p : Plain) (c : Call) → Booked p (plainCall S p c)
-booked-call S p (Offer i bytes) = at (stationFrom 0 (S .indexes) i)
+booked-call S p (Write i w) = at (stationFrom 0 (S .indexes) i)
   where
-    at : (o : Option ℕ) → Booked p (plainOffer p bytes o)
+    new : (k bytes : ℕ) (done : Message → PlainResult) → ((m : Message) → Booked p (done m)) → Booked p (plainNew p k bytes done)
+    new k bytes done e = booked-if p (fitsMessage bytes) _ _ (booked-if p (inUse p (recordOf (newcomer p k (slotsFor bytes)))) _ _ (booked-refused p 9) (e (newcomer p k (slotsFor bytes)))) (booked-refused p 10)
+
+    held : (done : Message → PlainResult) → ((m : Message) → Booked p (done m)) → (l : List Message) → Booked p (plainHeld p done l)
+    held done e [] = booked-refused p 22
+    held done e (m ∷ l) = e m
+
+    writing : (k : ℕ) (w : Writing) → Booked p (plainWriting p k w)
+    writing k (Offer bytes) = new k bytes (plainOffer p) (booked-offer p)
+    writing k (Hold bytes) = new k bytes (plainHold p) (booked-hold p)
+    writing k (Commit o) = held (plainCommit p (recordNamed k o)) (booked-commit p (recordNamed k o)) (of (recordNamed k o) (p .held))
+    writing k (Withdraw o) = held (plainWithdraw p (recordNamed k o)) (booked-withdraw p (recordNamed k o)) (of (recordNamed k o) (p .held))
+
+    at : (o : Option ℕ) → Booked p (plainWrite p w o)
     at none = booked-refused p 16
-    at (some k) = booked-if p (fitsMessage bytes) _ _ (booked-if p (waits p (recordOf (newcomer p k bytes))) _ _ (booked-refused p 9) (booked-accept p (newcomer p k bytes))) (booked-refused p 10)
+    at (some k) = writing k w
 booked-call S p (Slot picks) =
     booked-if p (eqb (length picks) (length (S .indexes))) _ _
     (booked-if p (inRange (S .m) picks) _ _ (booked-if p (overflows (plainSettled p)) _ _ (booked-refused p 7) (booked-slot S (λ k. getD picks k 1) p)) (booked-refused p 11))

@@ -8,7 +8,7 @@ use native.Mathlib.Omega.{arith}
 use lib.ListN.{length, drop, getD, length-append}
 use Rattle.rules.proofs.QueueViews.{length-segments}
 use Rattle.rules.proofs.Newcomers.{ofBy-append}
-use Rattle.rules.proofs.CallStep.{length-rem}
+use Rattle.rules.proofs.Ledger.{length-rem}
 use Rattle.rules.proofs.Relation.{Same, Numbered, whole, remaining}
 use Rattle.rules.proofs.Shared.{Table}
 use Rattle.rules.proofs.Views.{eqb-self, nil-cons}
@@ -18,7 +18,7 @@ use Rattle.rules.specs.Messages.{deliveredFor, Message, Segment, of, segmentsFr
 use Rattle.rules.specs.Plain.{Plain}
 use Rattle.rules.specs.Serving.{waiting}
 use Rattle.rules.specs.declared.Condition.{Condition}
-use Rattle.rules.specs.declared.Condition.the-variants.{Free, Fresh, Asked, Resolving, Urgent, Long}
+use Rattle.rules.specs.declared.Condition.the-variants.{Free, Held, Fresh, Asked, Resolving, Urgent, Long}
 use borrow.Author.Tests.{eq-eqb, ne-eqb, eqb-false}
 use lib.Dec.{eqb}
 
@@ -102,6 +102,7 @@ none-left (x ∷ a) b e = absurd (nil-cons (sym e))
 -- what remains of a message in its record is a run of its segments
 pub remaining-run : (n : Message) (c : Condition) → (l : ℕ) × (s : ℕ) × (remaining n c ≡ segmentsFrom n l s)
 remaining-run n Free = (0, 1, refl)
+remaining-run n (Held t) = (0, 1, refl)
 remaining-run n (Fresh t) = (n .slots, 1, refl)
 remaining-run n (Asked g j t) = (n .slots, 1, refl)
 remaining-run n (Resolving g i t) = (n .slots, 1, refl)

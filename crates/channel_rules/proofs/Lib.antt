@@ -13,7 +13,7 @@ pub mod SoundLists
 pub mod SoundMeans
 pub mod Gathering
 pub mod EmbodyCalendars
-pub mod EmbodyOffers
+pub mod EmbodyWrites
 pub mod EmbodyCalls
 pub mod Sounding
 pub mod SoundKept

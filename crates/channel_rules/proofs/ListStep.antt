@@ -11,7 +11,8 @@ use Rattle.rules.proofs.Newcomers.{ofBy-append}
 use Rattle.listlaws.proofs.Totals.{total, total-cong, total-add}
 use Rattle.rules.proofs.Census.{length-total}
 use Rattle.rules.proofs.AskedRows.{row-eq}
-use Rattle.rules.proofs.CallStep.{call-same, ledger, length-whole}
+use Rattle.rules.proofs.Ledger.{ledger, length-whole}
+use Rattle.rules.proofs.CallStep.{call-same}
 use Rattle.channel_rules.proofs.Searching.{condition-eq}
 use Rattle.rules.proofs.Clauses.{read}
 use Rattle.rules.proofs.Relation.{Agrees, Same, Fits, whole}

@@ -13,7 +13,7 @@ use Rattle.rules.proofs.Shared.{askedSender}
 use Rattle.rules.proofs.Views.{senderAt, eqb-self}
 use Rattle.listlaws.specs.Lists.{onlyIf}
 use Rattle.rules.specs.declared.Condition.{Condition}
-use Rattle.rules.specs.declared.Condition.the-variants.{Free, Fresh, Asked, Resolving, Urgent, Long}
+use Rattle.rules.specs.declared.Condition.the-variants.{Free, Held, Fresh, Asked, Resolving, Urgent, Long}
 use Rattle.rules.specs.declared.Places.{Places}
 use borrow.Author.Tests.{eqb-true, ne-eqb, eqb-false}
 use lib.Dec.{eqb}
@@ -22,6 +22,7 @@ use lib.Dec.{eqb}
 module _ (b : Bool) (g : ℕ) (row : List Feedback) (n : Places) (j k : ℕ) where
   asked-settled : (c : Condition) → askedSender g j k (settle b g row n c) ≡ []
   asked-settled Free = refl
+  asked-settled (Held t) = refl
   asked-settled (Fresh t) = refl
   asked-settled (Asked h i t) = go (eqb h g) refl
     where
@@ -34,6 +35,7 @@ module _ (b : Bool) (g : ℕ) (row : List Feedback) (n : Places) (j k : ℕ) whe
 
   asked-far : (o : ℕ) → eqb o g ≡ false → (c : Condition) → askedSender o j k (settle b g row n c) ≡ askedSender o j k c
   asked-far o ne Free = refl
+  asked-far o ne (Held t) = refl
   asked-far o ne (Fresh t) = refl
   asked-far o ne (Asked h i t) = go (eqb h g) refl
     where
@@ -49,6 +51,7 @@ module _ (b : Bool) (g : ℕ) (row : List Feedback) (n : Places) (j k : ℕ) whe
 -- step 3 puts exactly the requests on the group's wire
 asked-asks : (x : Bool) (r g pick j k : ℕ) (c : Condition) → askedSender g j k c ≡ [] → askedSender g j k (asks x r g pick c) ≡ requestSender x r g pick j k c
 asked-asks x zero g pick j k Free e = refl
+asked-asks x zero g pick j k (Held t) e = refl
 asked-asks true zero g pick j k (Fresh t) e = refl
 asked-asks false zero g pick j k (Fresh t) e = rw (eqb-self g)
 asked-asks x zero g pick j k (Asked h i t) e = e
@@ -56,6 +59,7 @@ asked-asks x zero g pick j k (Resolving h i t) e = refl
 asked-asks x zero g pick j k (Urgent i) e = refl
 asked-asks x zero g pick j k (Long f l t) e = refl
 asked-asks x (suc r) g pick j k Free e = refl
+asked-asks x (suc r) g pick j k (Held t) e = refl
 asked-asks x (suc r) g pick j k (Fresh t) e = refl
 asked-asks x (suc r) g pick j k (Asked h i t) e = e
 asked-asks x (suc r) g pick j k (Resolving h i t) e = go (eqb h g) i

@@ -15,7 +15,7 @@ use Rattle.rules.specs.Messages.{Message, Segment, of, segment, deliveredOf, re
 use Rattle.rules.specs.Plain.{Plain}
 use Rattle.rules.specs.Positions.{one, part, find, inGroups, conditionOf}
 use Rattle.rules.specs.declared.Condition.{Condition}
-use Rattle.rules.specs.declared.Condition.the-variants.{Free, Fresh, Asked, Resolving, Urgent, Long}
+use Rattle.rules.specs.declared.Condition.the-variants.{Free, Held, Fresh, Asked, Resolving, Urgent, Long}
 use borrow.Author.Tests.{eqb-true, eqb-false}
 use lib.Dec.{eqb}
 
@@ -90,20 +90,21 @@ module _ (S : Start) (p : Plain) (k : ℕ) (m : Message) where
   -- the station's condition is what the search finds
   pub condition-eq : (c : Condition) → Agrees S p k m c → conditionOf S p k ≡ c
   condition-eq Free a =
-      rw (a .fresh, find-none (one k) (p .urgent) 1 a.urgent, find-none (part k) (p .long) 1 a.long) (groups-none a.asking a.resolution (S .n))
-  condition-eq (Fresh t) a = rw (a .fresh) (ap Fresh (sym (a .fits)))
+      rw (a .held, a .fresh, find-none (one k) (p .urgent) 1 a.urgent, find-none (part k) (p .long) 1 a.long) (groups-none a.asking a.resolution (S .n))
+  condition-eq (Held t) a = rw (a .held) (ap Held (sym (a .fits)))
+  condition-eq (Fresh t) a = rw (a .held, a .fresh) (ap Fresh (sym (a .fits)))
   condition-eq (Asked g zero t) a = let f : Fits S m (Asked g zero t) = a .fits in absurd (omega arith)
   condition-eq (Asked g (suc j) t) a =
       let f : Fits S m (Asked g (suc j) t) = a .fits in
-      rw (a .fresh, find-none (one k) (p .urgent) 1 a.urgent, find-none (part k) (p .long) 1 a.long) (groups-asked g j (f .1) a.asking a.resolution (S .n) (f .2) ∙ ap (Asked g (suc j)) (sym (f .0)))
+      rw (a .held, a .fresh, find-none (one k) (p .urgent) 1 a.urgent, find-none (part k) (p .long) 1 a.long) (groups-asked g j (f .1) a.asking a.resolution (S .n) (f .2) ∙ ap (Asked g (suc j)) (sym (f .0)))
   condition-eq (Resolving g zero t) a = let f : Fits S m (Resolving g zero t) = a .fits in absurd (omega arith)
   condition-eq (Resolving g (suc j) t) a =
       let f : Fits S m (Resolving g (suc j) t) = a .fits in
-      rw (a .fresh, find-none (one k) (p .urgent) 1 a.urgent, find-none (part k) (p .long) 1 a.long) (groups-res g j (f .1) a.asking a.resolution (S .n) (f .2) ∙ ap (Resolving g (suc j)) (sym (f .0)))
+      rw (a .held, a .fresh, find-none (one k) (p .urgent) 1 a.urgent, find-none (part k) (p .long) 1 a.long) (groups-res g j (f .1) a.asking a.resolution (S .n) (f .2) ∙ ap (Resolving g (suc j)) (sym (f .0)))
   condition-eq (Urgent zero) a = let f : Fits S m (Urgent zero) = a .fits in absurd (omega arith)
-  condition-eq (Urgent (suc j)) a = rw (a .fresh, find-shifted (one k) (p .urgent) 1 j m (atFirst (m ∷ [])) refl a.urgent) (ap Urgent (omega arith))
+  condition-eq (Urgent (suc j)) a = rw (a .held, a .fresh, find-shifted (one k) (p .urgent) 1 j m (atFirst (m ∷ [])) refl a.urgent) (ap Urgent (omega arith))
   condition-eq (Long zero l t) a = let f : Fits S m (Long zero l t) = a .fits in absurd (omega arith)
   condition-eq (Long (suc f) zero t) a = let w : Fits S m (Long (suc f) zero t) = a .fits in absurd (omega arith)
   condition-eq (Long (suc f) (suc l) t) a =
-      rw (a .fresh, find-none (one k) (p .urgent) 1 a.urgent, find-shifted (part k) (p .long) 1 f (segment m (suc (t - suc l))) (run m (suc l) (suc (t - suc l))) refl a.long, count-run k m (p .long) f (suc l) (suc (t - suc l)) a.long)
+      rw (a .held, a .fresh, find-none (one k) (p .urgent) 1 a.urgent, find-shifted (part k) (p .long) 1 f (segment m (suc (t - suc l))) (run m (suc l) (suc (t - suc l))) refl a.long, count-run k m (p .long) f (suc l) (suc (t - suc l)) a.long)
       (ap (λ (x : ℕ). Long x (suc l) (m .slots)) (let w : 1 + f ≡ suc f = omega arith in w) ∙ ap (Long (suc f) (suc l)) (sym (a .fits .0)))

@@ -17,7 +17,7 @@ use Rattle.listlaws.specs.Lists.{onlyIf}
 use Rattle.rules.specs.Calendars.{freeEntry, ownerIn, calendarWithin, entriesWithin}
 use Rattle.rules.specs.Limits.{resolutionWithin, openedWithin, groupsWithin, withinLimits, between}
 use Rattle.rules.specs.declared.Condition.{Condition}
-use Rattle.rules.specs.declared.Condition.the-variants.{Free, Fresh, Asked, Resolving, Urgent, Long}
+use Rattle.rules.specs.declared.Condition.the-variants.{Free, Held, Fresh, Asked, Resolving, Urgent, Long}
 use Rattle.rules.specs.StationLimits.{conditionWithin, messagesWithin, stationWithin}
 use Rattle.rules.specs.Messages.{shortRecord, longRecord}
 use Rattle.channel_rules.specs.Soundness.{messagesOf, askedRequest, askedRequests, askedMinislot, soundTable}
@@ -62,6 +62,7 @@ if-length false x = refl
 
 urgent-same : (i k : ℕ) (c : Condition) → cond (atUrgent i c) 1 0 ≡ length (urgentHere i k c)
 urgent-same i k Free = refl
+urgent-same i k (Held t) = refl
 urgent-same i k (Fresh t) = refl
 urgent-same i k (Asked g j t) = refl
 urgent-same i k (Resolving g j t) = refl
@@ -70,6 +71,7 @@ urgent-same i k (Long f l t) = refl
 
 long-same : (i k : ℕ) (c : Condition) → cond (coversLong i c) 1 0 ≡ length (longHere i k c)
 long-same i k Free = refl
+long-same i k (Held t) = refl
 long-same i k (Fresh t) = refl
 long-same i k (Asked g j t) = refl
 long-same i k (Resolving g j t) = refl
@@ -78,6 +80,7 @@ long-same i k (Long f l t) = if-length (leb f i && ltb i (f + l)) (senderAt k 0)
 
 resolving-same : (g i k : ℕ) (c : Condition) → cond (atResolving g i c) 1 0 ≡ length (resolvingHere g i k c)
 resolving-same g i k Free = refl
+resolving-same g i k (Held t) = refl
 resolving-same g i k (Fresh t) = refl
 resolving-same g i k (Asked h j t) = refl
 resolving-same g i k (Resolving h j t) = rw (eqb-sym i j) (go (eqb h g) (eqb j i))
@@ -92,6 +95,7 @@ resolving-same g i k (Long f l t) = refl
 
 asked-request : (ix : ℕ → ℕ) (g j k : ℕ) (c : Condition) → askedRequest g j (ix k) c ≡ map (asRequest ix) (askedSender g j k c)
 asked-request ix g j k Free = refl
+asked-request ix g j k (Held t) = refl
 asked-request ix g j k (Fresh t) = refl
 asked-request ix g j k (Asked h i t) = go (eqb h g) (eqb i j)
   where
@@ -199,6 +203,7 @@ module _ (S : Start) (G : GoodStart S) (p : Plain) (t : Table) (R : Same S p t) 
     condition-within : (c : Condition) → InsideTable S t c → conditionWithin (s .counters) c ≡ true
     unfolding conditionWithin
     condition-within Free w = refl
+    condition-within (Held x) w = between-true 1 x 255 (w .0) (w .1)
     condition-within (Fresh x) w = between-true 1 x 255 (w .0) (w .1)
     condition-within (Asked g j x) w =
         rw (a .groups, a .minislots, between-true 1 g (S .n) (w .0) (w .1), between-true 1 j (S .m) (w .2) (w .3)) (between-true 1 x 255 (w .4) (w .5))

@@ -12,7 +12,7 @@ use Rattle.rules.specs.declared.Station.{Station}
 use Rattle.listlaws.specs.Lists.{gatherOf, onlyIf}
 use Rattle.rules.specs.Limits.{between}
 use Rattle.rules.specs.declared.Condition.{Condition}
-use Rattle.rules.specs.declared.Condition.the-variants.{Free, Fresh, Asked, Resolving, Urgent, Long}
+use Rattle.rules.specs.declared.Condition.the-variants.{Free, Held, Fresh, Asked, Resolving, Urgent, Long}
 use Rattle.rules.specs.StationLimits.{resolutionAt, conditionWithin}
 use Rattle.stretches.specs.declared.Stretch.{Stretch}
 use Rattle.channel_rules.specs.Soundness.{messagesOf, sameNumbers, sameMarks, sameCounters, urgentPlace, urgentPlaces, longStretch, longStretches, resolvingPlace, resolvingPlaces}
@@ -35,6 +35,7 @@ AllWithin c (s ∷ l) = RecordsIn c (s .short .condition) (s .long .condition) �
 urgent-inside : (c : Counters) (k : Condition) → conditionWithin c k ≡ true → Inside (c .urgent) (urgentPlace k)
 unfolding conditionWithin
 urgent-inside c Free e = tt
+urgent-inside c (Held t) e = tt
 urgent-inside c (Fresh t) e = tt
 urgent-inside c (Asked g j t) e = tt
 urgent-inside c (Resolving g i t) e = tt
@@ -49,6 +50,7 @@ urgents-inside c (s ∷ l) w =
 
 urgent-times : (i : ℕ) (k : Condition) → times i (urgentPlace k) ≡ cond (atUrgent i k) 1 0
 urgent-times i Free = refl
+urgent-times i (Held t) = refl
 urgent-times i (Fresh t) = refl
 urgent-times i (Asked g j t) = refl
 urgent-times i (Resolving g j t) = refl
@@ -79,6 +81,7 @@ long-parts c f l t e =
 
 long-inside : (c : Counters) (k : Condition) → conditionWithin c k ≡ true → Inside (c .long) (gatherOf spread (longStretch k))
 long-inside c Free e = tt
+long-inside c (Held t) e = tt
 long-inside c (Fresh t) e = tt
 long-inside c (Asked g j t) e = tt
 long-inside c (Resolving g i t) e = tt
@@ -101,6 +104,7 @@ left-append (s ∷ a) b p q = (p .0, left-append a b (p .1) q)
 
 long-left : (c : Counters) (k : Condition) → conditionWithin c k ≡ true → AllLeft (longStretch k)
 long-left c Free e = tt
+long-left c (Held t) e = tt
 long-left c (Fresh t) e = tt
 long-left c (Asked g j t) e = tt
 long-left c (Resolving g i t) e = tt
@@ -115,6 +119,7 @@ longs-left c (s ∷ l) w =
 
 long-times : (i : ℕ) (k : Condition) → times i (gatherOf spread (longStretch k)) ≡ cond (coversLong i k) 1 0
 long-times i Free = refl
+long-times i (Held t) = refl
 long-times i (Fresh t) = refl
 long-times i (Asked g j t) = refl
 long-times i (Resolving g j t) = refl
@@ -140,6 +145,7 @@ longs-times i (s ∷ l) =
 resolving-inside : (c : Counters) (g : ℕ) (k : Condition) → conditionWithin c k ≡ true → Inside (resolutionAt c g) (resolvingPlace g k)
 unfolding conditionWithin
 resolving-inside c g Free e = tt
+resolving-inside c g (Held t) e = tt
 resolving-inside c g (Fresh t) e = tt
 resolving-inside c g (Asked h j t) e = tt
 resolving-inside c g (Resolving h i t) e = go (eqb h g) refl
@@ -162,6 +168,7 @@ resolvings-inside c g (s ∷ l) w =
 
 resolving-times : (g i : ℕ) (k : Condition) → times i (resolvingPlace g k) ≡ cond (atResolving g i k) 1 0
 resolving-times g i Free = refl
+resolving-times g i (Held t) = refl
 resolving-times g i (Fresh t) = refl
 resolving-times g i (Asked h j t) = refl
 resolving-times g i (Resolving h j t) = go (eqb h g)
@@ -186,6 +193,7 @@ resolvings-times g i (s ∷ l) =
 -- a station's two records never stand at one place, so its messages there are counted as its stations are
 resolving-stands : (g i : ℕ) (k : Condition) → atResolving g i k ≡ standsIn g i k
 resolving-stands g i Free = refl
+resolving-stands g i (Held t) = refl
 resolving-stands g i (Fresh t) = refl
 resolving-stands g i (Asked h j t) = refl
 resolving-stands g i (Resolving h j t) = ap (λ (b : Bool). eqb h g && b) (eqb-sym i j)

@@ -20,12 +20,13 @@ use Rattle.rules.specs.Messages.{Message, Segment, ofBy, of, segment, recordOf}
 use Rattle.rules.specs.Plain.{Plain}
 use Rattle.rules.specs.Positions.{one, part}
 use Rattle.rules.specs.declared.Condition.{Condition}
-use Rattle.rules.specs.declared.Condition.the-variants.{Free, Fresh, Asked, Resolving, Urgent, Long}
+use Rattle.rules.specs.declared.Condition.the-variants.{Free, Held, Fresh, Asked, Resolving, Urgent, Long}
 use borrow.Author.Tests.{eqb-true}
 
 -- whether station k stands at a place, counted from 1: of H, of N, of group g's RQ
 abbrev pub urgentHere : ℕ → ℕ → Condition → List Sender
 urgentHere i k Free = []
+urgentHere i k (Held t) = []
 urgentHere i k (Fresh t) = []
 urgentHere i k (Asked g j t) = []
 urgentHere i k (Resolving g j t) = []
@@ -34,6 +35,7 @@ urgentHere i k (Long f l t) = []
 
 abbrev pub longHere : ℕ → ℕ → Condition → List Sender
 longHere i k Free = []
+longHere i k (Held t) = []
 longHere i k (Fresh t) = []
 longHere i k (Asked g j t) = []
 longHere i k (Resolving g j t) = []
@@ -42,6 +44,7 @@ longHere i k (Long f l t) = onlyIf (leb f i && ltb i (f + l)) (senderAt k 0 ∷ 
 
 abbrev pub resolvingHere : ℕ → ℕ → ℕ → Condition → List Sender
 resolvingHere g i k Free = []
+resolvingHere g i k (Held t) = []
 resolvingHere g i k (Fresh t) = []
 resolvingHere g i k (Asked h j t) = []
 resolvingHere g i k (Resolving h j t) = onlyIf (eqb h g) (onlyIf (eqb j i) (senderAt k 0 ∷ []))
@@ -50,6 +53,7 @@ resolvingHere g i k (Long f l t) = []
 
 abbrev pub InsideTable : Start → Table → Condition → Type 0
 InsideTable S t Free = Unit {0}
+InsideTable S t (Held s) = (1 ≤ s) × (s ≤ 255)
 InsideTable S t (Fresh s) = (1 ≤ s) × (s ≤ 255)
 InsideTable S t (Asked g j s) = (1 ≤ g) × (g ≤ S .n) × (1 ≤ j) × (j ≤ S .m) × (1 ≤ s) × (s ≤ 255)
 InsideTable S t (Resolving g i s) = (1 ≤ g) × (g ≤ S .n) × (1 ≤ i) × (i ≤ t .rq g) × (1 ≤ s) × (s ≤ 255)
@@ -133,6 +137,7 @@ length-crowd (x ∷ q) (suc i) h c = length-crowd q i (omega arith) (c .1)
 module _ (k : ℕ) (m : Message) where
   urgent-here : (c : Condition) (i : ℕ) → map (λ (y : Message). senderAt k 0) (urgentOf m c i) ≡ urgentHere (suc i) k c
   urgent-here Free i = refl
+  urgent-here (Held t) i = refl
   urgent-here (Fresh t) i = refl
   urgent-here (Asked g j t) i = refl
   urgent-here (Resolving g j t) i = refl
@@ -141,6 +146,7 @@ module _ (k : ℕ) (m : Message) where
 
   long-here : (S : Start) (c : Condition) → Fits S m c → (i : ℕ) → map (λ (y : Segment). senderAt k 0) (longOf m c i) ≡ longHere (suc i) k c
   long-here S Free w i = refl
+  long-here S (Held t) w i = refl
   long-here S (Fresh t) w i = refl
   long-here S (Asked g j t) w i = refl
   long-here S (Resolving g j t) w i = refl
@@ -150,6 +156,7 @@ module _ (k : ℕ) (m : Message) where
 
   resolving-here : (g : ℕ) (c : Condition) (i : ℕ) → map (λ (y : Message). senderAt k 0) (resolvingOf g m c i) ≡ resolvingHere g (suc i) k c
   resolving-here g Free i = refl
+  resolving-here g (Held t) i = refl
   resolving-here g (Fresh t) i = refl
   resolving-here g (Asked h j t) i = refl
   resolving-here g (Resolving h j t) i = go (eqb h g)
@@ -173,6 +180,7 @@ run-last m (suc l) s = run-last m l (suc s) ∙ ap (λ (x : ℕ). segment m x �
 module _ (S : Start) (p : Plain) (t : Table) (R : Same S p t) where
   inside-of : (k : ℕ) (c : Condition) → Agrees S p k (R .message k) c → InsideTable S t c
   inside-of k Free a = tt
+  inside-of k (Held s) a = let f : s ≡ R .message k .slots = a .fits in omega (arith, a .some, a .few)
   inside-of k (Fresh s) a = let f : s ≡ R .message k .slots = a .fits in omega (arith, a .some, a .few)
   inside-of k (Asked g j s) a = let f : Fits S (R .message k) (Asked g j s) = a .fits in omega (arith, a .some, a .few)
   inside-of k (Resolving g zero s) a = let f : Fits S (R .message k) (Resolving g zero s) = a .fits in absurd (omega arith)

@@ -14,7 +14,7 @@ use Rattle.rules.specs.declared.Condition.the-variants.{Long}
 use Rattle.rules.specs.Serving.{waiting}
 use Rattle.channel_rules.specs.SoundMeaning.{stationAt}
 use Rattle.channel_rules.specs.ChannelCalls.{Channel, newChannel, channelCall, channelAfter, channelAnswers}
-use Rattle.rules.specs.Calls.{Start, Call, Offer, Slot, Calendar}
+use Rattle.rules.specs.Calls.{Start, Call, Write, Slot, Calendar}
 use Rattle.rules.specs.Messages.{Message, Segment, shortRecord, longRecord, recordOf}
 use Rattle.rules.specs.Plain.{Plain, plainOwner, plainStart, plainCall, plainAfter, plainAnswers}
 use Rattle.channel_rules.specs.Demand3.{noMessage, segmentAt, messageAt, holderOf, SendersAre, SenderRule, MessageShows, Demand3After, Demand3Holds}
@@ -34,7 +34,7 @@ use Rattle.channel_rules.proofs.EmbodyCalls.{own-heard, counted, owner-
 use Rattle.channel_rules.proofs.SoundKept.{counters-same, is-at, meaning, stays-sound}
 use Rattle.channel_rules.proofs.Starts.{started, new-embodies}
 use Rattle.channel_rules.proofs.Following.{member, serial-at, station-of, waiting-sum, entry-at, wire-shows, sender-rule, never-comes, books-taken, books-delivered}
-use Rattle.channel_rules.proofs.Undelivered.{nine-means}
+use Rattle.channel_rules.proofs.Undelivered.{held-once, nine-means}
 
 module _ (S : Start) (G : GoodStart S) where
   ml : 1 ≤ S .m
@@ -57,8 +57,8 @@ module _ (S : Start) (G : GoodStart S) where
 
   run-senders : (calls : List Call) (p : Plain) (t : Table) (ch : Channel) → Same S p t → Embodies S t ch → SenderRule ch calls
   run-senders [] p t ch R E = tt
-  run-senders (Offer x bytes ∷ l) p t ch R E =
-      run-senders l (plainCall S p (Offer x bytes) .state) (tableCall S t (Offer x bytes) .state) (channelCall ch (Offer x bytes) .state) (call-same S ml p t R (Offer x bytes) .state) (step p t ch R E (Offer x bytes) .state)
+  run-senders (Write x w ∷ l) p t ch R E =
+      run-senders l (plainCall S p (Write x w) .state) (tableCall S t (Write x w) .state) (channelCall ch (Write x w) .state) (call-same S ml p t R (Write x w) .state) (step p t ch R E (Write x w) .state)
   run-senders (Slot picks ∷ l) p t ch R E = (
     λ turn n i s d e.
         rw (owner-counted S G p t R ch E (stays-sound S G p t R ch E), owner-eq S p t R)
@@ -164,15 +164,16 @@ module _ (S : Start) (G : GoodStart S) where
               ∙ ap (λ (z : ℕ). leaves (indexOf S) (gather (askedPair g (table .condition) z) (length (S .indexes)))) (let v : 1 + (j - 1) ≡ suc (j - 1) = omega arith in v)
               ∙ wire-shows S plain table R g (j - 1);
           answers = told;
-          never14 = rw told (never-comes 14 refl refl refl refl refl refl refl refl S (plainStart S) calls);
-          never18 = rw told (never-comes 18 refl refl refl refl refl refl refl refl S (plainStart S) calls);
-          never12 = rw told (never-comes 12 refl refl refl refl refl refl refl refl S (plainStart S) calls);
+          never14 = rw told (never-comes 14 refl refl refl refl refl refl refl refl refl S (plainStart S) calls);
+          never18 = rw told (never-comes 18 refl refl refl refl refl refl refl refl refl S (plainStart S) calls);
+          never12 = rw told (never-comes 12 refl refl refl refl refl refl refl refl refl S (plainStart S) calls);
           hears = λ k h. own-heard S G plain table R after E (stays-sound S G plain table R after E) k (stationAt (after .stations) k) h (is k h);
           sound = meaning S G plain table R after E;
           senders = run-senders calls (plainStart S) tableStart begun first (new-embodies S);
           apart = λ i h. serial-at (plain .taken) 0 (R .numbered) i h ∙ zero-add i;
           messages = message-shows;
           nine = nine-means S plain table R;
+          once = λ k. rw (R .agrees k .held) (held-once (R .message k) (table .condition k));
           taken = rw told (sym (books-taken S calls (plainStart S) ∙ zero-add _));
           delivered = rw told (sym (books-delivered S calls (plainStart S) ∙ zero-add _));
           ledger =

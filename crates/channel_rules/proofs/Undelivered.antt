@@ -1,25 +1,28 @@
--- The plain channel's test for 9, by totals, is what the paper says: a message of that station is not all delivered. If the totals differ,
--- what remains in the station is of a message taken; and what is left of a message taken waits in its station. Assumes nothing.
+-- The plain channel's test for 9, by totals, is what the paper says: a message of that station and kind is held or not all delivered. If the totals
+-- differ, what remains in the record is of a message taken; and what is left of a message taken waits in its record. Assumes nothing.
 use mathlib.Core.Path.{_≡_, refl, sym, ap, subst, _∙_}
-use mathlib.Core.Bool.{Bool, true, false}
+use mathlib.Core.Bool.{Bool, true, false, _||_}
 use mathlib.Core.List.{List, [], _∷_, _++_, List·Memᴰ, List·Memᴰ·head, List·Memᴰ·tail, List·Memᴰ·cases-cons, List·Memᴰ·not-nil, List·Memᴰ·append-cases}
-use mathlib.Core.Logic.{⊎-elim}
-use Prim.Native.Nat.{ℕ, zero, suc, _-_, _<_}
+use mathlib.Core.Logic.{_⊎_, inl, inr, ⊎-elim}
+use Prim.Native.Nat.{ℕ, zero, suc, _-_, _≤_, _<_}
 use native.Mathlib.Omega.{arith}
 use lib.Dec.{eqb}
 use lib.ListN.{length, getD}
-use borrow.Author.Tests.{ne-eqb, eqb-false, not-true}
+use borrow.Author.Tests.{eq-eqb, ne-eqb, eqb-true, eqb-false, not-true}
 use Rattle.listlaws.specs.Lists.{keepIf}
 use Rattle.rules.specs.Calls.{Start}
 use Rattle.rules.specs.Messages.{Message, Segment, of, segment, segmentsFrom, deliveredOf, deliveredFor, recordOf}
-use Rattle.rules.specs.Plain.{Plain, slotSum, waits}
+use Rattle.rules.specs.Plain.{Plain, slotSum, someOf, waits, inUse}
 use Rattle.rules.specs.Serving.{waiting}
-use Rattle.channel_rules.specs.Demand3.{noMessage, messageAt, NotAllDelivered}
+use Rattle.rules.specs.declared.Condition.{Condition}
+use Rattle.rules.specs.declared.Condition.the-variants.{Free, Held, Fresh, Asked, Resolving, Urgent, Long}
+use Rattle.channel_rules.specs.Demand3.{noMessage, messageAt, NotAllDelivered, IsHeld}
 use Rattle.rules.proofs.Shared.{Table}
 use Rattle.rules.proofs.Views.{eqb-self}
+use Rattle.rules.proofs.Parting.{no-true}
 use Rattle.rules.proofs.QueueViews.{length-segments}
-use Rattle.rules.proofs.Relation.{Same, whole, remaining}
-use Rattle.rules.proofs.CallStep.{ledger, length-rem}
+use Rattle.rules.proofs.Relation.{Same, heldOf, whole, remaining}
+use Rattle.rules.proofs.Ledger.{ledger, length-rem}
 use Rattle.channel_rules.proofs.Histories.{remaining-run, remaining-own, own-slots, history-of}
 use Rattle.channel_rules.proofs.Following.{member}
 
@@ -52,6 +55,34 @@ place-in : (m : Message) (l : List Message) → List·Memᴰ m l → (i : ℕ) �
 place-in m [] h = absurd (List·Memᴰ·not-nil h)
 place-in m (x ∷ l) h =
     ⊎-elim (λ e. (0, omega arith, sym e)) (λ w. let (i, lo, e) = place-in m l w in (suc i, omega arith, e)) (List·Memᴰ·cases-cons h)
+
+-- what a record has in a list is of the record; and a message of the record in a list is one that it has there
+of-record : (k : ℕ) (m : Message) (l : List Message) → List·Memᴰ m (of k l) → recordOf m ≡ k
+of-record k m [] h = absurd (List·Memᴰ·not-nil h)
+of-record k m (x ∷ l) h = go (of-record k m l) (eqb (recordOf x) k) refl h
+  where
+    go : (List·Memᴰ m (of k l) → recordOf m ≡ k) → (b : Bool) → eqb (recordOf x) k ≡ b → List·Memᴰ m (keepIf b x (of k l)) → recordOf m ≡ k
+    go ih true e h = ⊎-elim (λ w. ap recordOf w ∙ eqb-true (recordOf x) k e) ih (List·Memᴰ·cases-cons h)
+    go ih false e h = ih h
+
+some-own : (k : ℕ) (l : List Message) (i : ℕ) → i < length l → recordOf (getD l i noMessage) ≡ k → someOf (of k l) ≡ true
+some-own k [] i h e = absurd (omega arith)
+some-own k (x ∷ l) zero h e = rw (eq-eqb (recordOf x) k e)
+some-own k (x ∷ l) (suc i) h e = go (some-own k l i (omega arith) e) (eqb (recordOf x) k)
+  where
+    go : someOf (of k l) ≡ true → (b : Bool) → someOf (keepIf b x (of k l)) ≡ true
+    go ih true = refl
+    go ih false = ih
+
+-- a record shows one message that is held, or none
+pub held-once : (m : Message) (c : Condition) → length (heldOf m c) ≤ 1
+held-once m Free = omega arith
+held-once m (Held t) = omega arith
+held-once m (Fresh t) = omega arith
+held-once m (Asked g j t) = omega arith
+held-once m (Resolving g i t) = omega arith
+held-once m (Urgent i) = omega arith
+held-once m (Long f l t) = omega arith
 
 module _ (S : Start) (p : Plain) (t : Table) (R : Same S p t) (k : ℕ) where
   -- what remains in record k is of a message taken
@@ -96,5 +127,27 @@ module _ (S : Start) (p : Plain) (t : Table) (R : Same S p t) (k : ℕ) where
       rw (ne-eqb (slotSum (of k (p .taken))) (length (deliveredOf k (p .history)))
       (λ e. omega (arith, e, few, waits-here, ledger S p k (R .message k) (t .condition k) (R .agrees k))))
 
-  pub nine-means : (waits p k ≡ true → NotAllDelivered p k) × (NotAllDelivered p k → waits p k ≡ true)
-  nine-means = (left-by-totals, totals-by-left)
+  -- a message that is held, by its position among those
+  held-place : someOf (of k (p .held)) ≡ true → IsHeld p k
+  held-place w = go (of k (p .held)) refl w
+    where
+      go : (l : List Message) → of k (p .held) ≡ l → someOf l ≡ true → IsHeld p k
+      go [] e w = absurd (no-true w)
+      go (m ∷ l) e w =
+          let here : List·Memᴰ m (of k (p .held)) = subst (List·Memᴰ m) (sym e) (List·Memᴰ·head refl) in
+          let (i, lo, at) = place-in m (p .held) (in-own k m (p .held) here) in
+          record { which = i; held = lo; own = ap recordOf at ∙ of-record k m (p .held) here }
+
+  place-held : IsHeld p k → someOf (of k (p .held)) ≡ true
+  place-held h = some-own k (p .held) (h .which) (h .held) (h .own)
+
+  pub nine-means : (inUse p k ≡ true → IsHeld p k ⊎ NotAllDelivered p k) × (IsHeld p k ⊎ NotAllDelivered p k → inUse p k ≡ true)
+  nine-means = (λ w. either (someOf (of k (p .held))) refl w, λ u. ⊎-elim (λ h. rw (place-held h)) (λ n. rw (totals-by-left n) (or-true (someOf (of k (p .held))))) u)
+    where
+      either : (b : Bool) → someOf (of k (p .held)) ≡ b → (b || waits p k) ≡ true → IsHeld p k ⊎ NotAllDelivered p k
+      either true e w = inl (held-place e)
+      either false e w = inr (left-by-totals w)
+
+      or-true : (b : Bool) → (b || true) ≡ true
+      or-true true = refl
+      or-true false = refl

@@ -1,5 +1,6 @@
--- The channel: a table of stations and a wire; its start, its offers, its calendar and its slots (paper 01, "The channel" and "Operations
--- and their numbers"; paper 02, T-02 and T-04). A refusal leaves table and wire as they were. Assumes nothing.
+-- The channel: a table of stations and a wire; its start, the calls that write a message record of a station, its calendar and its slots
+-- (paper 01, "The channel" and "Operations and their numbers"; paper 02, T-02, T-04 and T-06). A refusal leaves table and wire as they
+-- were. Assumes nothing.
 use mathlib.Core.Bool.{Bool, _&&_}
 use mathlib.Core.List.{List, [], _∷_, map}
 use Prim.Native.Nat.{ℕ, zero, suc, _+_, _-_}
@@ -8,7 +9,6 @@ use lib.ListN.{length, getD, set, take, replicate}
 use Rattle.minislot.specs.declared.Minislot.{Minislot}
 use Rattle.minislot.specs.declared.Feedback.{Feedback}
 use Rattle.rows.specs.Row.{readings, feedbacks}
-use Rattle.message.specs.Message.{slotsFor}
 use Rattle.requests.specs.Together.{Request, carries, silent, together}
 use Rattle.rules.specs.declared.Station.{Station}
 use Rattle.rules.specs.declared.StationSlot.{StationSlot}
@@ -30,13 +30,15 @@ use Rattle.rules.specs.declared.Turn.{Turn}
 use Rattle.rules.specs.declared.Turn.the-variants.{Owned as OwnedTurn, Urgent as UrgentTurn, Long as LongTurn}
 use Rattle.rules.specs.declared.Turn.the-variants.{Resolve as ResolveTurn, Open as OpenTurn}
 use Rattle.rules.specs.Outcome.{outcomeOf}
-use Rattle.rules.specs.StationCalls.{startStation, noStation, isIndex, withMessage, takingNumberOf, slotOf}
+use Rattle.rules.specs.StationCalls.{startStation, noStation, isIndex, slotOf}
+use Rattle.rules.specs.declared.Writing.{Writing}
+use Rattle.rules.specs.Writing.{writingNumberOf, writingTotalOf, writtenOf}
 use Rattle.rules.specs.Settings.{calendarOn}
 use Rattle.places.specs.Places.{differ}
 use Rattle.channel_rules.specs.Soundness.{soundTable, tableCounters, positionOf, isOnTable, entriesOn}
 use Rattle.rules.specs.declared.Answer.{Answer}
-use Rattle.rules.specs.declared.Answer.the-variants.{Refused, Taken, Set, Went}
-use Rattle.rules.specs.Calls.{Call, Offer, Slot, Calendar}
+use Rattle.rules.specs.declared.Answer.the-variants.{Refused, Set, Went}
+use Rattle.rules.specs.Calls.{Call, Write, Slot, Calendar, writingAnswer}
 
 pub record Channel : Type 0 where
   pub stations : List Station
@@ -85,7 +87,7 @@ channelStartOf ch m n indexes =
     byNumber (channelStartNumberOf (length (ch .stations)) m n indexes) (refusedBeginning ch)
     (record { state = newChannel m n indexes; answer = Ready })
 
--- ---- offering: 14, 18, 16, 10, 9
+-- ---- an offer, a hold, a commit, a withdrawal: 14, 18, 16, then 10, 9 or 22
 
 abbrev pub refused : Channel → ℕ → ChannelResult
 refused ch n = record { state = ch; answer = Refused n }
@@ -94,24 +96,23 @@ refused ch n = record { state = ch; answer = Refused n }
 abbrev pub stationOf : Channel → ℕ → Station
 stationOf ch index = getD (ch .stations) (positionOf index (ch .stations)) noStation
 
--- station k takes a message of this many bytes
-abbrev pub takenAt : Channel → ℕ → ℕ → ChannelResult
-takenAt ch k bytes =
+-- station k is written
+abbrev pub writtenAt : Channel → ℕ → Writing → ChannelResult
+writtenAt ch k w =
     record {
-      state = record { stations = set (ch .stations) k (withMessage (getD (ch .stations) k noStation) bytes); wire = ch .wire };
-      answer = Taken (slotsFor bytes);
+      state = record { stations = set (ch .stations) k (writtenOf (getD (ch .stations) k noStation) w); wire = ch .wire };
+      answer = writingAnswer w (writingTotalOf (getD (ch .stations) k noStation) w);
     }
 
-unfoldable pub channelOfferNumberOf : Channel → ℕ → ℕ → ℕ
-channelOfferNumberOf ch index bytes =
+unfoldable pub channelWriteNumberOf : Channel → ℕ → Writing → ℕ
+channelWriteNumberOf ch index w =
     unless (hasStations (ch .stations)) 14
     (unless (soundTable (ch .stations) (ch .wire)) 18
     (unless (isOnTable (ch .stations) index) 16
-    (takingNumberOf (stationOf ch index) bytes)))
+    (writingNumberOf (stationOf ch index) w)))
 
-unfoldable pub channelOfferOf : Channel → ℕ → ℕ → ChannelResult
-channelOfferOf ch index bytes =
-    byNumber (channelOfferNumberOf ch index bytes) (refused ch) (takenAt ch (positionOf index (ch .stations)) bytes)
+unfoldable pub channelWriteOf : Channel → ℕ → Writing → ChannelResult
+channelWriteOf ch index w = byNumber (channelWriteNumberOf ch index w) (refused ch) (writtenAt ch (positionOf index (ch .stations)) w)
 
 -- ---- setting a calendar: 14, 18, 20, 21
 
@@ -249,7 +250,7 @@ channelSlotOf ch picks =
 -- ---- a call, and lists of calls
 
 abbrev pub channelCall : Channel → Call → ChannelResult
-channelCall ch (Offer index bytes) = channelOfferOf ch index bytes
+channelCall ch (Write index w) = channelWriteOf ch index w
 channelCall ch (Slot picks) = channelSlotOf ch picks
 channelCall ch (Calendar entries) = channelCalendarOf ch entries
 

@@ -1,10 +1,11 @@
--- DEMAND 3 (paper 01, "Demand 3's list" and "The channel"; paper 02, T-02 and T-04): one claim over every list of calls on one channel from
--- a start that goes through, refused calls included, any arguments at all. Each field is a sentence of the paper. `ch` is the channel after
--- the list, `p` the plain channel after it. Assumes nothing.
+-- DEMAND 3 (paper 01, "Demand 3's list" and "The channel"; paper 02, T-02, T-04 and T-06): one claim over every list of calls on one
+-- channel from a start that goes through, refused calls included, any arguments at all. Each field is a sentence of the paper. `ch` is
+-- the channel after the list, `p` the plain channel after it. Assumes nothing.
 use mathlib.Core.Path.{_≡_}
 use mathlib.Core.Bool.{Bool, true, false, cond}
 use mathlib.Core.List.{List, [], _∷_, map}
 use mathlib.Core.Option.{Option, none, some}
+use mathlib.Core.Logic.{_⊎_}
 use Prim.Native.Nat.{ℕ, _+_, _-_, _%_, _≤_, _<_}
 use lib.Dec.{eqb}
 use lib.ListN.{length, getD}
@@ -26,10 +27,10 @@ use Rattle.channel_rules.specs.SoundMeaning.{stationAt, Sound}
 use Rattle.channel_rules.specs.ChannelCalls.{Channel, blankRow, channelStartOf, heardRow}
 use Rattle.channel_rules.specs.ChannelCalls.{feedbackHeard, channelCall, channelAfter, channelAnswers}
 use Rattle.rules.specs.declared.Answer.{Answer}
-use Rattle.rules.specs.declared.Answer.the-variants.{Refused, Taken, Set, Went}
-use Rattle.rules.specs.Calls.{Start, index, Call, Offer, Slot, Calendar}
-use Rattle.rules.specs.Messages.{Message, Segment, segmentsFrom, shortRecord, longRecord, recordOf, deliveredFor}
-use Rattle.rules.specs.Plain.{Plain, plainStart, plainAfter, plainAnswers, slotSum, waits}
+use Rattle.rules.specs.declared.Answer.the-variants.{Refused, Taken, OnHold, Committed, Withdrawn, Set, Went}
+use Rattle.rules.specs.Calls.{Start, index, Call, Write, Slot, Calendar}
+use Rattle.rules.specs.Messages.{Message, Segment, segmentsFrom, shortRecord, longRecord, recordOf, of, deliveredFor}
+use Rattle.rules.specs.Plain.{Plain, plainStart, plainAfter, plainAnswers, slotSum, inUse}
 use Rattle.rules.specs.Positions.{conditionOf}
 
 -- ---- the words of the statement
@@ -56,19 +57,28 @@ messageAt p i = getD (p .taken) i noMessage
 abbrev pub isRefusal : ℕ → Answer → Bool
 isRefusal n (Refused x) = eqb x n
 isRefusal n (Taken t) = false
+isRefusal n (OnHold t) = false
+isRefusal n (Committed t) = false
+isRefusal n (Withdrawn t) = false
 isRefusal n Set = false
 isRefusal n (Went turn senders index segment delivered) = false
 
--- the slots that an answer says were taken, and delivered
+-- the slots that an answer says were taken, at an offer or a commit, and delivered
 abbrev pub takenIn : Answer → ℕ
 takenIn (Refused x) = 0
 takenIn (Taken t) = t
+takenIn (OnHold t) = 0
+takenIn (Committed t) = t
+takenIn (Withdrawn t) = 0
 takenIn Set = 0
 takenIn (Went turn senders index segment delivered) = 0
 
 abbrev pub deliveredIn : Answer → ℕ
 deliveredIn (Refused x) = 0
 deliveredIn (Taken t) = 0
+deliveredIn (OnHold t) = 0
+deliveredIn (Committed t) = 0
+deliveredIn (Withdrawn t) = 0
 deliveredIn Set = 0
 deliveredIn (Went turn senders index segment delivered) = delivered
 
@@ -87,7 +97,7 @@ pub record SendersAre (owner : Option ℕ) (c : Places) (senders lone segment : 
 -- of each slot in a list that went through
 abbrev pub SenderRule : Channel → List Call → Type 0
 SenderRule ch [] = Unit {0}
-SenderRule ch (Offer x bytes ∷ l) = SenderRule (channelCall ch (Offer x bytes) .state) l
+SenderRule ch (Write x w ∷ l) = SenderRule (channelCall ch (Write x w) .state) l
 SenderRule ch (Slot picks ∷ l) =
     ((turn : Turn) (senders i s d : ℕ) → channelCall ch (Slot picks) .answer ≡ Went turn senders i s d
     → SendersAre (ownerOf (tableCounters (ch .stations))) (countedPlaces ch) senders i s)
@@ -126,6 +136,12 @@ pub record NotAllDelivered (p : Plain) (k : ℕ) : Type 0 where
   pub own : recordOf (messageAt p which) ≡ k
   pub left : length (deliveredFor (messageAt p which .serial) (p .history)) < messageAt p which .slots
 
+-- a message of record k is held
+pub record IsHeld (p : Plain) (k : ℕ) : Type 0 where
+  pub which : ℕ
+  pub held : which < length (p .held)
+  pub own : recordOf (getD (p .held) which noMessage) ≡ k
+
 -- ---- THE CLAIM
 
 pub record Demand3 (S : Start) (begun : Channel) (calls : List Call) (ch : Channel) (p : Plain) : Type 0 where
@@ -137,7 +153,8 @@ pub record Demand3 (S : Start) (begun : Channel) (calls : List Call) (ch : Chann
   -- so all stations have equal counters
   pub equal : (i k : ℕ) → i < length (S .indexes) → k < length (S .indexes)
       → stationAt (ch .stations) i .counters ≡ stationAt (ch .stations) k .counters
-  -- the condition of each of a station's two records is its message's: fresh, asked, or its position in its queue; free if none waits
+  -- the condition of each of a station's two records is its message's: held, fresh, asked, or its position in its queue; free if none is
+  -- held or waits
   pub short : (k : ℕ) → k < length (S .indexes) → stationAt (ch .stations) k .short .condition ≡ conditionOf S p (shortRecord k)
   pub long : (k : ℕ) → k < length (S .indexes) → stationAt (ch .stations) k .long .condition ≡ conditionOf S p (longRecord k)
   -- a stretch, which only a long record has: its segments there, one by one
@@ -166,13 +183,16 @@ pub record Demand3 (S : Start) (begun : Channel) (calls : List Call) (ch : Chann
   -- of each message taken: its first slots delivered, each once and in order, the rest wait in its record
   pub messages : (i : ℕ) → i < length (p .taken)
       → MessageShows p ch (messageAt p i)
-  -- the plain channel's test for 9, which goes by totals, says what the paper says: a message of that station and kind is not all
+  -- the plain channel's test for 9, which goes by totals, says what the paper says: a message of that station and kind is held or not all
   -- delivered
-  pub nine : (k : ℕ) → (waits p k ≡ true → NotAllDelivered p k) × (NotAllDelivered p k → waits p k ≡ true)
-  -- in total taken = delivered + waiting: delivered counted from the history, waiting from the conditions of both records of each station
+  pub nine : (k : ℕ) → (inUse p k ≡ true → IsHeld p k ⊎ NotAllDelivered p k) × (IsHeld p k ⊎ NotAllDelivered p k → inUse p k ≡ true)
+  -- a record holds no more than one message at a time
+  pub once : (k : ℕ) → length (of k (p .held)) ≤ 1
+  -- in total taken = delivered + waiting: delivered counted from the history, waiting from the conditions of both records of each station;
+  -- slots that are held are in neither
   pub ledger : slotSum (p .taken)
       ≡ length (p .history) + sumOf (λ (s : Station). waiting (s .short .condition) + waiting (s .long .condition)) (ch .stations)
-  -- and the answers' own sums are these: all that the offers took, all that the slots delivered
+  -- and the answers' own sums are these: all that the offers and the commits took, all that the slots delivered
   pub taken : sumOf takenIn (channelAnswers begun calls) ≡ slotSum (p .taken)
   pub delivered : sumOf deliveredIn (channelAnswers begun calls) ≡ length (p .history)
 

@@ -12,7 +12,7 @@ use Rattle.rules.specs.declared.Station.{Station}
 use Rattle.rules.specs.declared.WireRow.{WireRow}
 use Rattle.listlaws.specs.Lists.{countOf}
 use Rattle.rules.specs.declared.Condition.{Condition}
-use Rattle.rules.specs.declared.Condition.the-variants.{Free, Fresh, Asked, Resolving, Urgent, Long}
+use Rattle.rules.specs.declared.Condition.the-variants.{Free, Held, Fresh, Asked, Resolving, Urgent, Long}
 use Rattle.rules.specs.Calendars.{freeEntry, ownerIn}
 use Rattle.rules.specs.StationLimits.{resolutionAt, stationWithin}
 use Rattle.rules.specs.StationCalls.{noStation}
@@ -24,6 +24,7 @@ use Rattle.channel_rules.specs.ChannelCalls.{blankRow}
 -- resolution queue
 abbrev pub atUrgent : ℕ → Condition → Bool
 atUrgent i Free = false
+atUrgent i (Held t) = false
 atUrgent i (Fresh t) = false
 atUrgent i (Asked g j t) = false
 atUrgent i (Resolving g j t) = false
@@ -32,6 +33,7 @@ atUrgent i (Long f l t) = false
 
 abbrev pub coversLong : ℕ → Condition → Bool
 coversLong i Free = false
+coversLong i (Held t) = false
 coversLong i (Fresh t) = false
 coversLong i (Asked g j t) = false
 coversLong i (Resolving g j t) = false
@@ -40,6 +42,7 @@ coversLong i (Long f l t) = leb f i && ltb i (f + l)
 
 abbrev pub atResolving : ℕ → ℕ → Condition → Bool
 atResolving g i Free = false
+atResolving g i (Held t) = false
 atResolving g i (Fresh t) = false
 atResolving g i (Asked h j t) = false
 atResolving g i (Resolving h j t) = eqb h g && eqb i j

@@ -1,6 +1,6 @@
--- A sound table (paper 01, "The channel"; paper 02, T-02 and T-04), clause by clause, and their conjunction (refusal 18). The tests on
--- places are those of crate `places`. That each clause says what the paper's says, place by place, is shown in proofs/SoundMeans. Assumes
--- nothing.
+-- A sound table (paper 01, "The channel"; paper 02, T-02, T-04 and T-06), clause by clause, and their conjunction (refusal 18). The tests
+-- on places are those of crate `places`. That each clause says what the paper's says, place by place, is shown in proofs/SoundMeans.
+-- Assumes nothing.
 use mathlib.Core.Bool.{Bool, true, false, not, _&&_, _||_, Bool·beq, cond}
 use mathlib.Core.List.{List, [], _∷_, map}
 use Prim.Native.Nat.{ℕ, suc}
@@ -19,7 +19,7 @@ use Rattle.stretches.specs.Stretches.{covered}
 use Rattle.crowds.specs.Crowds.{crowded}
 use Rattle.rules.specs.declared.TableMessage.{TableMessage}
 use Rattle.rules.specs.declared.Condition.{Condition}
-use Rattle.rules.specs.declared.Condition.the-variants.{Free, Fresh, Asked, Resolving, Urgent, Long}
+use Rattle.rules.specs.declared.Condition.the-variants.{Free, Held, Fresh, Asked, Resolving, Urgent, Long}
 use Rattle.rules.specs.Calendars.{freeEntry, positions}
 use Rattle.rules.specs.StationLimits.{stationWithin}
 use Rattle.rules.specs.StationCalls.{noStation}
@@ -78,6 +78,7 @@ countersShared stations = each (λ (s : Station). sameCounters (tableCounters st
 
 abbrev pub urgentPlace : Condition → List ℕ
 urgentPlace Free = []
+urgentPlace (Held t) = []
 urgentPlace (Fresh t) = []
 urgentPlace (Asked g j t) = []
 urgentPlace (Resolving g i t) = []
@@ -94,6 +95,7 @@ urgentSound stations = takenOnce (urgentPlaces (messagesOf stations)) (tableCoun
 
 abbrev pub longStretch : Condition → List Stretch
 longStretch Free = []
+longStretch (Held t) = []
 longStretch (Fresh t) = []
 longStretch (Asked g j t) = []
 longStretch (Resolving g i t) = []
@@ -110,6 +112,7 @@ longSound stations = covered (longStretches (messagesOf stations)) (tableCounter
 
 abbrev pub resolvingPlace : ℕ → Condition → List ℕ
 resolvingPlace g Free = []
+resolvingPlace g (Held t) = []
 resolvingPlace g (Fresh t) = []
 resolvingPlace g (Asked h j t) = []
 resolvingPlace g (Resolving h i t) = onlyIf (eqb h g) (i ∷ [])
@@ -131,6 +134,7 @@ resolutionSound stations = everyFrom (λ i r. resolutionSoundAt stations (suc i)
 -- the request of a record asked in minislot j of group g
 abbrev pub askedRequest : ℕ → ℕ → ℕ → Condition → List Request
 askedRequest g j index Free = []
+askedRequest g j index (Held t) = []
 askedRequest g j index (Fresh t) = []
 askedRequest g j index (Asked h i t) = onlyIf (eqb h g && eqb i j) (record { index = index; total = t } ∷ [])
 askedRequest g j index (Resolving h i t) = []

@@ -4,15 +4,15 @@
 // A table is a line `table` with its number of records, a line `record` for each, and a line `row` for each group of which the wire has
 // something: the group, then eight minislots as word and count in turn.
 //
-// The cases come from standard input, a line each, on the table that the line before left. A line `start`, `offer`, `slot` or `calendar`
-// has a call's arguments (a calendar's 24 entries); it is written, then the answer, then the table as the call left it. An owned turn has
-// the owner behind it. The indexes of a start come from the line `indexes` or `from` before it (after the last of them, each is one more
-// than the one before), and the picks of a slot from the line `picks`. Other lines alter the table and write nothing: `blank` (so many
-// records that stand for no station), `count` (another number of records lent), `station` (its place and index, the short message's
-// condition and the long one's, with the counters of the line `counters` before it: m, n, the next group, H, N, eight RQ, eight Open
-// marks; and the position and the calendar's entries of the line `position` after that), `minislot` (group, minislot, word and count).
-// `table` writes the table, `show` the position and the owners of each of its records; `keep` keeps the table, and `again` comes back to
-// the one that was kept.
+// The cases come from standard input, a line each, on the table that the line before left. A line `start`, `offer`, `hold`, `commit`,
+// `withdraw`, `slot` or `calendar` has a call's arguments (of a commit or a withdrawal the index, and 1 for the short record or 2 for the
+// long one; a calendar's 24 entries); it is written, then the answer, then the table as the call left it. An owned turn has the owner
+// behind it. The indexes of a start come from the line `indexes` or `from` before it (after the last of them, each is one more than the
+// one before), and the picks of a slot from the line `picks`. Other lines alter the table and write nothing: `blank` (so many records that
+// stand for no station), `count` (another number of records lent), `station` (its place and index, the short message's condition and the
+// long one's, with the counters of the line `counters` before it: m, n, the next group, H, N, eight RQ, eight Open marks; and the position
+// and the calendar's entries of the line `position` after that), `minislot` (group, minislot, word and count). `table` writes the table,
+// `show` the position and the owners of each of its records; `keep` keeps the table, and `again` comes back to the one that was kept.
 mod lines;
 
 use libc::STDIN_FILENO;
@@ -35,14 +35,15 @@ use runs_records::counters_of;
 use runs_records::entries_of;
 use runs_records::start_line;
 use runs_records::station_of;
+use runs_records::writing;
 use runs_tables::begun;
 use runs_tables::calendared;
 use runs_tables::least;
-use runs_tables::offered;
 use runs_tables::slotted;
 use runs_tables::with_count;
 use runs_tables::with_minislot;
 use runs_tables::with_station;
+use runs_tables::written;
 use runs_text::text;
 ghost use mathlib.Core.Path.{_≡_};
 ghost use lib.ListN.{length};
@@ -88,8 +89,9 @@ fn start(c: LocalChannel, head: Group, given: Group) -> LocalChannel {
     r.channel
 }
 
-fn offer(c: LocalChannel, head: Group) -> LocalChannel {
-    let r = offered(c, number16(head, 1), number(head, 2) as usize);
+// A call that writes a message record, by its number: 1 an offer, 2 a hold, 3 a commit, 4 a withdrawal.
+fn write(c: LocalChannel, call: u64, head: Group) -> LocalChannel {
+    let r = written(c, number16(head, 1), writing(call, number(head, 2)));
     let answer = r.answer;
     answer_line(answer);
     r.channel
@@ -112,16 +114,19 @@ fn calendar(c: LocalChannel, head: Group) -> LocalChannel {
     r.channel
 }
 
-// The table after a call: 14 a start, 15 an offer, 16 a slot, 17 a calendar.
+// The table after a call: 1 a start, 2 an offer, 3 a slot, 4 a calendar, 5 a hold, 6 a commit, 7 a withdrawal.
 fn called(s: State, call: u64, head: Group) -> LocalChannel {
     let c = s.last;
     let indexes = s.indexes;
     let picks = s.picks;
     match call {
-        14 => start(c, head, indexes),
-        15 => offer(c, head),
-        16 => slot(c, head, picks),
-        _ => calendar(c, head),
+        1 => start(c, head, indexes),
+        2 => write(c, 1, head),
+        3 => slot(c, head, picks),
+        4 => calendar(c, head),
+        5 => write(c, 2, head),
+        6 => write(c, 3, head),
+        _ => write(c, 4, head),
     }
 }
 
@@ -164,8 +169,8 @@ fn altered(
     }
 }
 
-// What is left after a line from 10 on: the table kept, the one that was kept, the table written, its calendars, or a call.
-fn after(s: State, word: u64, line: &[u8], head: Group) -> State {
+// What is left after a line from 10 on: the table kept, the one that was kept, the table written, or its calendars.
+fn after(s: State, word: u64) -> State {
     let mut s = s;
     let last = s.last;
     let kept = s.kept;
@@ -173,15 +178,19 @@ fn after(s: State, word: u64, line: &[u8], head: Group) -> State {
         10 => s.kept = last,
         11 => s.last = kept,
         12 => table_lines(last),
-        13 => owned_lines(last),
-        _ => {
-            text(line);
-            text(b"\n");
-            let c = called(s, word, head);
-            table_lines(c);
-            s.last = c;
-        }
+        _ => owned_lines(last),
     }
+    s
+}
+
+// A call: its line, the answer and the table after.
+fn call(s: State, line: &[u8], kind: u64, head: Group) -> State {
+    let mut s = s;
+    text(line);
+    text(b"\n");
+    let c = called(s, kind, head);
+    table_lines(c);
+    s.last = c;
     s
 }
 
@@ -189,10 +198,14 @@ fn after(s: State, word: u64, line: &[u8], head: Group) -> State {
 fn case(s: State, line: &[u8]) -> State {
     let mut s = s;
     let head = group_at(line, 0);
+    let kind = which(line, 0, b"start offer slot calendar hold commit withdraw ");
+    if kind != 0 {
+        return call(s, line, kind, head);
+    }
     let word = which(
         line,
         0,
-        b"counters position from indexes picks blank count station minislot keep again table show start offer slot calendar ",
+        b"counters position from indexes picks blank count station minislot keep again table show ",
     );
     if word == 0 {
         return s;
@@ -206,7 +219,7 @@ fn case(s: State, line: &[u8]) -> State {
         s.last = altered(last, counters, word, line, head);
         return s;
     }
-    after(s, word, line, head)
+    after(s, word)
 }
 
 fn cases(bytes: &[u8], s: State) {

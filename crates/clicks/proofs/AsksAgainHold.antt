@@ -2,15 +2,15 @@
 -- returns, with the group's mark no; so its own Single there is queued. The slots of the other groups leave an asked message and another group's mark alone.
 -- Assumes nothing.
 use mathlib.Core.Path.{_≡_, refl, sym, ap, subst, _∙_}
-use mathlib.Core.Bool.{Bool, true, false, cond, _&&_, and-false}
+use mathlib.Core.Bool.{Bool, true, false, cond, and-false}
 use mathlib.Core.List.{List, [], _∷_}
 use mathlib.Core.Logic.{_≢_, inr, ⊎-elim}
 use mathlib.Core.Option.{Option, none, some as owned}
 use Prim.Native.Nat.{ℕ, zero, suc, _+_, _-_, _<_, _≤_}
 use native.Mathlib.Omega.{arith}
-use lib.Dec.{eqb, ltb, leb}
+use lib.Dec.{eqb, ltb}
 use lib.ListN.{length}
-use borrow.Author.Tests.{lt-ltb, ne-eqb, eqb-true, eqb-false, leb-true}
+use borrow.Author.Tests.{lt-ltb, ne-eqb, eqb-true, eqb-false}
 use Rattle.rules.specs.declared.Counters.{Counters}
 use Rattle.rules.specs.declared.Places.{Places}
 use Rattle.rules.specs.declared.Station.{Station}
@@ -24,9 +24,9 @@ use Rattle.rules.specs.Turns.{turnOf, isOpen}
 use Rattle.rules.specs.Falling.{fallen, following}
 use Rattle.rules.specs.declared.Acted.{Acted}
 use Rattle.rules.specs.declared.Condition.{Condition}
-use Rattle.rules.specs.declared.Condition.the-variants.{Free, Fresh, Asked, Resolving, Urgent, Long}
+use Rattle.rules.specs.declared.Condition.the-variants.{Asked, Resolving, Urgent, Long}
 use Rattle.rules.specs.Listening.{hasRow}
-use Rattle.rules.specs.StationLimits.{resolutionAt, isTotal, conditionWithin, stationWithin}
+use Rattle.rules.specs.StationLimits.{conditionWithin, stationWithin}
 use Rattle.rules.specs.StationCalls.{slotNumberOf}
 use Rattle.rules.specs.Stepping.{isFresh, requestMinislot, asker, sender, requestTotal}
 use Rattle.rules.specs.Requesting.{waitsIn, requests, requested, totalOf}
@@ -34,21 +34,23 @@ use Rattle.rules.specs.Serving.{sends, moved}
 use Rattle.rules.specs.Numbers.{slotTold}
 use Rattle.rules.proofs.LimitLaws.{between-bounds, within-limits, station-in}
 use Rattle.rules.proofs.QueueingLaws.{row-grows}
-use Rattle.rules.proofs.ClauseLaws.{Placed, settle-is}
-use Rattle.rules.proofs.Parting.{no-true, standsIn, Parted, apart-parted, settle-parted}
+use Rattle.rules.proofs.ClauseLaws.{settle-is}
+use Rattle.rules.proofs.Parting.{standsIn, Parted, apart-parted, settle-parted}
 use Rattle.rules.proofs.RecordKinds.{resolving-one}
 use Rattle.rules.proofs.Refusals.{test-passed}
 use Rattle.rules.proofs.Settled.{standsAlone, settledBy, settledOf, requesting, conditionAfter, actedBy, besideBy, stationAfter, wentBy, acts-is}
 use Rattle.rules.proofs.Walking.{row-fits}
-use Rattle.rules.proofs.SlotStep.{and-both}
 use Rattle.rules.proofs.Views.{eqb-self}
 use Rattle.edges.specs.Changes.{markOf, afterSlot, Changes}
 use Rattle.edges.proofs.ChangesHold.{changes-within}
 use Rattle.edges.proofs.EdgesAnyHold.{shut}
 use Rattle.edges.proofs.GroupRounds.{NextAfter, following-in, one-fewer, other as other-group}
-use Rattle.clicks.specs.OwnClicks.{lengthsBefore, Which, ShortOne, LongOne, recordIn}
+use Rattle.rules.specs.declared.Which.{Which}
+use Rattle.rules.specs.declared.Which.the-variants.{ShortOne, LongOne}
+use Rattle.rules.specs.Writing.{recordIn}
+use Rattle.clicks.specs.OwnClicks.{lengthsBefore}
 use Rattle.clicks.specs.AsksAgain.{HeardSlot, rowHeard, numberHearing, slotHearing, other, sentBeside, afterSlots, AllGo, lastPlaces, HearsItsSingle, Queued, AsksAgainHolds}
-use Rattle.clicks.proofs.HeardSlots.{Whole, whole-of, goes, settles, within-of}
+use Rattle.clicks.proofs.HeardSlots.{place-inside, within-placed, Whole, whole-of, goes, settles, within-of}
 
 -- ---- a place in the resolution queue: the turn is not open
 
@@ -99,36 +101,6 @@ module _ (s : Station) (x : HeardSlot) (z : numberHearing s x ≡ 0) where
       ∙ ap (λ (y : Acted). y .condition) (beside-alone s x (s .short .condition) (s .long .condition) e)
 
 -- ---- the slot in which it asks
-
--- a condition within its limits stands at a place of its queue, and counts places from 1
-place-inside : (c : Counters) (g i : ℕ) (k : Condition) → conditionWithin c k ≡ true → standsIn g i k ≡ true → i ≤ resolutionAt c g
-unfolding conditionWithin
-place-inside c g i Free w e = absurd (no-true e)
-place-inside c g i (Fresh t) w e = absurd (no-true e)
-place-inside c g i (Asked h j t) w e = absurd (no-true e)
-place-inside c g i (Resolving h j t) w e =
-    let (p, q) = and-both (eqb h g) (eqb j i) e in
-    let at = and-both (between 1 h (c .groups)) (between 1 j (resolutionAt c h)) (and-both (between 1 h (c .groups) && between 1 j (resolutionAt c h)) (isTotal t) w .0) .1 in
-    subst (λ (n : ℕ). n ≤ resolutionAt c g) (eqb-true j i q) (subst (λ (n : ℕ). j ≤ resolutionAt c n) (eqb-true h g p) (between-bounds 1 j (resolutionAt c h) at .1))
-place-inside c g i (Urgent j) w e = absurd (no-true e)
-place-inside c g i (Long f l t) w e = absurd (no-true e)
-
-within-placed : (c : Counters) (k : Condition) → conditionWithin c k ≡ true → Placed k
-unfolding conditionWithin
-within-placed c Free w = tt
-within-placed c (Fresh t) w = tt
-within-placed c (Asked h j t) w =
-    between-bounds 1 j (c .minislots) (and-both (between 1 h (c .groups)) (between 1 j (c .minislots)) (and-both (between 1 h (c .groups) && between 1 j (c .minislots)) (isTotal t) w .0) .1) .0
-within-placed c (Resolving h j t) w =
-    between-bounds 1 j (resolutionAt c h)
-    (and-both (between 1 h (c .groups)) (between 1 j (resolutionAt c h)) (and-both (between 1 h (c .groups) && between 1 j (resolutionAt c h)) (isTotal t) w .0) .1) .0
-within-placed c (Urgent i) w = between-bounds 1 i (c .urgent) w .0
-within-placed c (Long f l t) w =
-    let (x, y) = and-both (between 2 t 255 && between 1 l t && leb 1 f) (leb (f + l) (c .long + 1)) w in
-    let (u, v) = and-both (between 2 t 255 && between 1 l t) (leb 1 f) x in
-    let (p, q) = and-both (between 2 t 255) (between 1 l t) u in
-    let (least, most) = between-bounds 1 l t q in
-    (leb-true 1 f v, least, most)
 
 module _ (o : Which) (s : Station) (t : ℕ) (x : HeardSlot) (first : recordIn o s ≡ Resolving (s .counters .next) 1 t) (z : numberHearing s x ≡ 0) where
   w : Whole s (x .words) (x .counts)

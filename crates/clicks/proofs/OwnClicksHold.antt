@@ -28,7 +28,7 @@ use Rattle.rules.specs.declared.Station.{Station}
 use Rattle.rules.specs.Limits.{between}
 use Rattle.rules.specs.Queueing.{queued, queuedRow, placesOf, immediateOf}
 use Rattle.rules.specs.declared.Condition.{Condition}
-use Rattle.rules.specs.declared.Condition.the-variants.{Free, Fresh, Asked, Resolving, Urgent, Long}
+use Rattle.rules.specs.declared.Condition.the-variants.{Free, Held, Fresh, Asked, Resolving, Urgent, Long}
 use Rattle.rules.specs.StationLimits.{isTotal, conditionWithin}
 use Rattle.rules.specs.OwnHearing.{ownMinislot, hearsHere, hearsElsewhere, listens, hearsItself}
 use Rattle.rules.proofs.Parting.{asksIn, apart-parted}
@@ -41,7 +41,10 @@ use Rattle.rules.proofs.StationLaws.{hears-fails, hears-holds}
 use Rattle.rules.proofs.Views.{eqb-self}
 use Rattle.rows.proofs.Answers.{all-feedback}
 use Rattle.rows.proofs.Row.{readings-length}
-use Rattle.clicks.specs.OwnClicks.{wordAt, heardIn, lengthsBefore, Which, ShortOne, LongOne, recordIn, settledHearing, Listens, OnTop, NowhereElse, OwnClicks}
+use Rattle.rules.specs.declared.Which.{Which}
+use Rattle.rules.specs.declared.Which.the-variants.{ShortOne, LongOne}
+use Rattle.rules.specs.Writing.{recordIn}
+use Rattle.clicks.specs.OwnClicks.{wordAt, heardIn, lengthsBefore, settledHearing, Listens, OnTop, NowhereElse, OwnClicks}
 use Rattle.clicks.proofs.HeardSlots.{Whole, lengths, reads-at, settles, within-of}
 
 -- what a minislot is heard as, from its reading
@@ -66,6 +69,7 @@ own-in o s words counts j t w e =
 -- and the station listens for that message: the other one is not asked in the group
 not-listening : (g : ℕ) (k : Condition) → (asksIn g k ≡ true → ⊥) → ownMinislot g k ≡ 0
 not-listening g Free n = refl
+not-listening g (Held t) n = refl
 not-listening g (Fresh t) n = refl
 not-listening g (Asked h j t) n = go (eqb h g) n
   where

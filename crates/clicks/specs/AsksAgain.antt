@@ -19,7 +19,10 @@ use Rattle.rules.specs.StationCalls.{slotNumberOf, slotOf}
 use Rattle.rules.specs.Numbers.{slotTold}
 use Rattle.rules.specs.Outcome.{outcomeOf}
 use Rattle.rules.specs.Stepping.{actsOf}
-use Rattle.clicks.specs.OwnClicks.{heardIn, lengthsBefore, Which, ShortOne, LongOne, recordIn, settledHearing}
+use Rattle.rules.specs.declared.Which.{Which}
+use Rattle.rules.specs.declared.Which.the-variants.{ShortOne, LongOne}
+use Rattle.rules.specs.Writing.{recordIn}
+use Rattle.clicks.specs.OwnClicks.{heardIn, lengthsBefore, settledHearing}
 
 -- a row that a station hears, and its pick in that slot
 pub record HeardSlot : Type 0 where

@@ -22,6 +22,8 @@ use Rattle.rules.specs.Queueing.{placesBefore, placesOf, immediateOf, stepOneOf
 use Rattle.rules.specs.Listening.{hasRow}
 use Rattle.rules.specs.declared.Condition.{Condition}
 use Rattle.rules.specs.declared.Condition.the-variants.{Asked, Resolving}
+use Rattle.rules.specs.declared.Which.{Which}
+use Rattle.rules.specs.Writing.{recordIn}
 use Rattle.rules.specs.StationLimits.{stationWithin}
 use Rattle.rules.specs.OwnHearing.{hearsElsewhere}
 use Rattle.rules.specs.Outcome.{outcomeOf}
@@ -39,16 +41,7 @@ heardIn words counts = feedbacks (readings words counts)
 abbrev pub lengthsBefore : Counters → List Feedback → ℕ → Places
 lengthsBefore c row j = placesBefore (immediateOf c row) (placesOf c) row j
 
--- one of a station's two records, and the condition of its message
-pub data Which : Type 0 where
-  ShortOne : Which
-  LongOne : Which
-
-abbrev pub recordIn : Which → Station → Condition
-recordIn ShortOne s = s .short .condition
-recordIn LongOne s = s .long .condition
-
--- where its message stands after step 1 of a slot
+-- where the message of one of a station's two records stands after step 1 of a slot
 abbrev pub settledHearing : Which → Station → List Feedback → Condition
 settledHearing w s row = settledIn (outcomeOf (s .counters) row .landed) (s .counters .next) (recordIn w s)
 

@@ -28,6 +28,7 @@ pub fn condition_within(c: Counters, k: Condition) -> bool
         } => grouped_within(c.groups, group, resolution_of(c, group), place, total),
         Condition::Urgent { place } => urgent_within(c.urgent, place),
         Condition::Long { first, left, total } => stretch_within(c.long, first, left, total),
+        Condition::Held { total } => 1 <= total,
     }
 }
 

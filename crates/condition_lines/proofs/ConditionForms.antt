@@ -52,3 +52,8 @@ module _ (k index : ℕ) where
       ≡ conditionLine k index (condition.Long first left total)
   unfolding conditionLine
   long-form first left total = message-form _ (first ∷ left ∷ total ∷ []) refl
+
+  pub held-form : (total : ℕ) → formOf (messageForm (104 ∷ 101 ∷ 108 ∷ 100 ∷ [])) (k ∷ index ∷ total ∷ [])
+      ≡ conditionLine k index (condition.Held total)
+  unfolding conditionLine
+  held-form total = message-form _ (total ∷ []) refl

@@ -2,7 +2,7 @@
 // buffer. A line that does not fit is not written at all.
 use forms::put_form;
 ghost use mathlib.Core.Path.{_≡_};
-ghost use Rattle.rules.specs.declared.Condition.the-variants.{Free, Fresh, Asked, Resolving, Urgent, Long};
+ghost use Rattle.rules.specs.declared.Condition.the-variants.{Free, Fresh, Asked, Resolving, Urgent, Long, Held};
 ghost use Rattle.decimals.specs.Putting.{putAt, placeAfter};
 ghost use Rattle.condition_lines.specs.ConditionLines.{conditionLine};
 
@@ -88,4 +88,13 @@ pub fn put_long(
 {
     let values = [call, index as u64, first as u64, left as u64, total as u64];
     put_form(out, at, b"#,message,#,long", &values)
+}
+
+// The line of one whose message is held.
+pub fn put_held(out: &mut [u8], at: usize, call: u64, index: u16, total: u8) -> usize
+    ensures buffer { λ r. ⌜ now (out .exit) ≡ putAt (now (out .entry)) at (conditionLine call index (Held total)) ⌝ }
+    ensures reached { λ r. ⌜ r ≡ placeAfter (now (out .entry)) at (conditionLine call index (Held total)) ⌝ }
+{
+    let values = [call, index as u64, total as u64];
+    put_form(out, at, b"#,message,#,held", &values)
 }

@@ -10,7 +10,7 @@ use Rattle.rules.specs.declared.Acted.{Acted}
 use Rattle.rules.specs.declared.Turn.{Turn}
 use Rattle.rules.specs.declared.Turn.the-variants.{Owned as OwnedTurn, Urgent as UrgentTurn, Long as LongTurn, Resolve as ResolveTurn, Open as OpenTurn}
 use Rattle.rules.specs.declared.Condition.{Condition}
-use Rattle.rules.specs.declared.Condition.the-variants.{Free, Fresh, Asked, Resolving, Urgent, Long}
+use Rattle.rules.specs.declared.Condition.the-variants.{Free, Held, Fresh, Asked, Resolving, Urgent, Long}
 use Rattle.rules.specs.Requesting.{waitsIn, requests, requested}
 use Rattle.rules.specs.Serving.{sends, moved}
 use Rattle.rules.specs.Stepping.{settledIn, requestMinislot, stays, actsOf}
@@ -33,10 +33,15 @@ module _ (r g pick : ℕ) where
   quiet : (t : Turn) (k : Condition) → idleIn t r g k ≡ true → after t r g pick k ≡ stays k
   unfolding idleIn requests requested sends moved
   quiet (OwnedTurn x) Free e = refl
+  quiet (OwnedTurn x) (Held t) e = refl
   quiet UrgentTurn Free e = refl
+  quiet UrgentTurn (Held t) e = refl
   quiet LongTurn Free e = refl
+  quiet LongTurn (Held n) e = refl
   quiet ResolveTurn Free e = refl
+  quiet ResolveTurn (Held n) e = refl
   quiet OpenTurn Free e = refl
+  quiet OpenTurn (Held n) e = refl
   quiet (OwnedTurn x) (Fresh n) e = rw (not-true (eqb r 0) e)
   quiet UrgentTurn (Fresh n) e = rw (not-true (eqb r 0) e)
   quiet LongTurn (Fresh n) e = rw (not-true (eqb r 0) e)
@@ -68,6 +73,7 @@ module _ (o : Outcome) where
   settles : (k : Condition) → idleIn (o .turn) (o .resolution) (o .group) k ≡ true → settledIn (o .landed) (o .group) k ≡ k
   unfolding idleIn settledIn
   settles Free e = refl
+  settles (Held n) e = refl
   settles (Fresh n) e = refl
   settles (Asked h j n) e = rw (not-true (eqb h (o .group)) e)
   settles (Resolving h i n) e = refl

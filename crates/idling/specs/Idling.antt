@@ -6,7 +6,7 @@ use lib.Dec.{eqb}
 use Rattle.rules.specs.declared.Turn.{Turn}
 use Rattle.rules.specs.declared.Turn.the-variants.{Owned as OwnedTurn, Urgent as UrgentTurn, Long as LongTurn, Resolve as ResolveTurn, Open as OpenTurn}
 use Rattle.rules.specs.declared.Condition.{Condition}
-use Rattle.rules.specs.declared.Condition.the-variants.{Free, Fresh, Asked, Resolving, Urgent, Long}
+use Rattle.rules.specs.declared.Condition.the-variants.{Free, Held, Fresh, Asked, Resolving, Urgent, Long}
 
 abbrev pub servesUrgent : Turn → Bool
 servesUrgent (OwnedTurn x) = false
@@ -26,6 +26,7 @@ servesLong OpenTurn = false
 -- in a resolution queue that stands still, one in a transmission queue that the turn does not serve
 unfoldable pub idleIn : Turn → ℕ → ℕ → Condition → Bool
 idleIn t r g Free = true
+idleIn t r g (Held n) = true
 idleIn t r g (Fresh n) = not (eqb r 0)
 idleIn t r g (Asked h j n) = not (eqb h g)
 idleIn t r g (Resolving h i n) = cond (eqb h g) (eqb r 0) true

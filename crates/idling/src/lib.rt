@@ -42,6 +42,7 @@ pub fn idle(t: Turn, r: u32, g: u8, k: Condition) -> bool
         Condition::Resolving { group, .. } => if group == g { r == 0 } else { true },
         Condition::Urgent { .. } => !serves_urgent(t),
         Condition::Long { .. } => !serves_long(t),
+        Condition::Held { .. } => true,
     }
 }
 

@@ -61,5 +61,6 @@ pub fn settled_in(landed: [Landed; 8], g: u8, k: Condition) -> Condition
         Condition::Resolving { .. } => k,
         Condition::Urgent { .. } => k,
         Condition::Long { .. } => k,
+        Condition::Held { .. } => k,
     }
 }

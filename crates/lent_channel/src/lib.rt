@@ -5,9 +5,10 @@ use calls::StartReply;
 use drawing::least;
 use rules::Station;
 use rules::WireRow;
+use rules::Writing;
 ghost use mathlib.Core.Path.{_≡_};
 ghost use Prim.Native.Nat.{_≤_};
-ghost use Rattle.channel_rules.specs.ChannelCalls.{channelStartOf, channelOfferOf, channelCalendarOf, channelSlotOf};
+ghost use Rattle.channel_rules.specs.ChannelCalls.{channelStartOf, channelWriteOf, channelCalendarOf, channelSlotOf};
 ghost use Rattle.lent_channel.specs.Lent.{lentOf, startLentOf, callLentOf};
 
 // The room after a start on its first records, and the start's result.
@@ -16,7 +17,7 @@ pub struct StartLent {
     pub reply: StartReply,
 }
 
-// The room after an offer, a calendar or a slot on its first records, and the call's result.
+// The room after a writing, a calendar or a slot on its first records, and the call's result.
 pub struct CallLent {
     pub stations: [Station; 65],
     pub reply: CallReply,
@@ -57,37 +58,37 @@ pub fn start_lent(
     start_part(stations, least(count, 65), wire, m, n, indexes)
 }
 
-// ---- offering
+// ---- writing a message record
 
-fn offer_part(
+fn write_part(
     stations: [Station; 65],
     count: usize,
     wire: [WireRow; 8],
     index: u16,
-    bytes: usize,
+    w: Writing,
 ) -> CallLent
     requires { ⌜ count ≤ 65 ⌝ }
-    ensures { λ r. ⌜ r ≡ callLentOf stations count (channelOfferOf (lentOf stations count wire) index bytes) ⌝ }
+    ensures { λ r. ⌜ r ≡ callLentOf stations count (channelWriteOf (lentOf stations count wire) index w) ⌝ }
 {
     let mut table = stations;
-    let reply = channel::offer(&mut table[..count], wire, index, bytes);
+    let reply = channel::write(&mut table[..count], wire, index, w);
     CallLent {
         stations: table,
         reply,
     }
 }
 
-// An offer to a station of the first `count` records, or of all 65 where there are no more.
-pub fn offer_lent(
+// A writing of a station of the first `count` records, or of all 65 where there are no more.
+pub fn write_lent(
     stations: [Station; 65],
     count: usize,
     wire: [WireRow; 8],
     index: u16,
-    bytes: usize,
+    w: Writing,
 ) -> CallLent
-    ensures { λ r. ⌜ r ≡ callLentOf stations count (channelOfferOf (lentOf stations count wire) index bytes) ⌝ }
+    ensures { λ r. ⌜ r ≡ callLentOf stations count (channelWriteOf (lentOf stations count wire) index w) ⌝ }
 {
-    offer_part(stations, least(count, 65), wire, index, bytes)
+    write_part(stations, least(count, 65), wire, index, w)
 }
 
 // ---- setting a calendar

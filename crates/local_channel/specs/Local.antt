@@ -2,8 +2,9 @@
 -- of the room as it was. Assumes nothing.
 use mathlib.Core.List.{List}
 use Prim.Native.Nat.{ℕ}
+use Rattle.rules.specs.declared.Writing.{Writing}
 use Rattle.channel_rules.specs.ChannelCalls.{Channel, ChannelResult, ChannelStarted}
-use Rattle.channel_rules.specs.ChannelCalls.{channelStartOf, channelOfferOf, channelCalendarOf, channelSlotOf}
+use Rattle.channel_rules.specs.ChannelCalls.{channelStartOf, channelWriteOf, channelCalendarOf, channelSlotOf}
 use Rattle.lent_channel.specs.Lent.{lentOf, roomAfter}
 use Rattle.local_channel.specs.declared.LocalChannel.{LocalChannel}
 use Rattle.local_channel.specs.declared.LocalStarted.{LocalStarted}
@@ -24,8 +25,8 @@ localStartOf c m n indexes = localStarted c (channelStartOf (lentBy c) m n index
 abbrev pub localCalled : LocalChannel → ChannelResult → LocalCalled
 localCalled c r = record { channel = localAfter c (r .state); answer = r .answer }
 
-unfoldable pub localOfferOf : LocalChannel → ℕ → ℕ → LocalCalled
-localOfferOf c index bytes = localCalled c (channelOfferOf (lentBy c) index bytes)
+unfoldable pub localWriteOf : LocalChannel → ℕ → Writing → LocalCalled
+localWriteOf c index w = localCalled c (channelWriteOf (lentBy c) index w)
 
 unfoldable pub localCalendarOf : LocalChannel → List ℕ → LocalCalled
 localCalendarOf c entries = localCalled c (channelCalendarOf (lentBy c) entries)

@@ -1,16 +1,17 @@
 // A channel that its caller holds by value: room for its records, the wire, and the channel's four calls on it.
 use lent_channel::calendar_lent;
-use lent_channel::offer_lent;
 use lent_channel::slot_lent;
 use lent_channel::start_lent;
+use lent_channel::write_lent;
 use rules::Answer;
 use rules::StartAnswer;
 use rules::Station;
 use rules::WireRow;
+use rules::Writing;
 ghost use mathlib.Core.Path.{_≡_};
 ghost use Rattle.rules.specs.Numbers.{startTold, callTold};
-ghost use Rattle.channel_rules.specs.Answered.{channelStartToldOf, channelOfferToldOf, channelCalendarToldOf, channelSlotToldOf};
-ghost use Rattle.local_channel.specs.Local.{lentBy, localStartOf, localOfferOf, localCalendarOf, localSlotOf};
+ghost use Rattle.channel_rules.specs.Answered.{channelStartToldOf, channelWriteToldOf, channelCalendarToldOf, channelSlotToldOf};
+ghost use Rattle.local_channel.specs.Local.{lentBy, localStartOf, localWriteOf, localCalendarOf, localSlotOf};
 
 // Room for 65 records, of which the first `count` are lent to the channel's calls, and the wire. A count above 65 lends all of them.
 pub struct LocalChannel {
@@ -25,7 +26,7 @@ pub struct LocalStarted {
     pub answer: StartAnswer,
 }
 
-// The channel after an offer, a calendar or a slot, and its answer.
+// The channel after a writing, a calendar or a slot, and its answer.
 pub struct LocalCalled {
     pub channel: LocalChannel,
     pub answer: Answer,
@@ -57,22 +58,23 @@ pub fn start(c: LocalChannel, m: u8, n: u8, indexes: &[u16]) -> LocalStarted
     }
 }
 
-// ---- offering
+// ---- writing a message record
 
-// Offers a message of this many bytes to the station of an index, by `channel::offer` on the first `count` records.
-pub fn offer(c: LocalChannel, index: u16, bytes: usize) -> LocalCalled
+// Writes a message record of the station of an index: an offer, a hold, a commit or a withdrawal, by `channel::write` on the first `count`
+// records.
+pub fn write(c: LocalChannel, index: u16, w: Writing) -> LocalCalled
     ensures { λ r. ⌜
-        (r ≡ localOfferOf c index bytes)
-        × (callTold (r .answer) ≡ channelOfferToldOf (lentBy c) index bytes)
+        (r ≡ localWriteOf c index w)
+        × (callTold (r .answer) ≡ channelWriteToldOf (lentBy c) index w)
         ⌝ }
 {
     let room = c.stations;
     let before = c.wire;
-    let offered = offer_lent(room, c.count, before, index, bytes);
-    let stations = offered.stations;
-    let offer_reply = offered.reply;
-    let wire = offer_reply.wire;
-    let answer = offer_reply.answer;
+    let written = write_lent(room, c.count, before, index, w);
+    let stations = written.stations;
+    let write_reply = written.reply;
+    let wire = write_reply.wire;
+    let answer = write_reply.answer;
     LocalCalled {
         channel: LocalChannel {
             stations,

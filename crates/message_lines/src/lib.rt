@@ -2,6 +2,7 @@
 use condition_lines::put_asked;
 use condition_lines::put_free;
 use condition_lines::put_fresh;
+use condition_lines::put_held;
 use condition_lines::put_long;
 use condition_lines::put_resolving;
 use condition_lines::put_urgent;
@@ -47,6 +48,7 @@ fn put_message(out: &mut [u8], at: usize, call: u64, index: u16, message: Messag
             left,
             total,
         ),
+        Condition::Held { total } => put_held(out, at, call, index, total),
     }
 }
 

@@ -22,6 +22,7 @@ fn urgent_moves(k: Condition) -> Condition
             }
         },
         Condition::Long { .. } => k,
+        Condition::Held { .. } => k,
     }
 }
 
@@ -56,6 +57,7 @@ fn long_moves(k: Condition) -> Condition
         Condition::Resolving { .. } => k,
         Condition::Urgent { .. } => k,
         Condition::Long { first, left, total } => stretch_moves(first, left, total),
+        Condition::Held { .. } => k,
     }
 }
 

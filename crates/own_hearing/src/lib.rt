@@ -24,6 +24,7 @@ fn own_minislot(g: u8, k: Condition) -> u8
         Condition::Resolving { .. } => 0,
         Condition::Urgent { .. } => 0,
         Condition::Long { .. } => 0,
+        Condition::Held { .. } => 0,
     }
 }
 
@@ -38,6 +39,7 @@ fn own_total(k: Condition) -> u8
         Condition::Resolving { .. } => 0,
         Condition::Urgent { .. } => 0,
         Condition::Long { .. } => 0,
+        Condition::Held { .. } => 0,
     }
 }
 

@@ -15,6 +15,7 @@ pub fn short_within(k: Condition) -> bool
         Condition::Resolving { total, .. } => total == 1,
         Condition::Urgent { .. } => true,
         Condition::Long { .. } => false,
+        Condition::Held { total } => total == 1,
     }
 }
 
@@ -29,6 +30,7 @@ pub fn long_within(k: Condition) -> bool
         Condition::Resolving { total, .. } => 1 < total,
         Condition::Urgent { .. } => false,
         Condition::Long { total, .. } => 1 < total,
+        Condition::Held { total } => 1 < total,
     }
 }
 
@@ -43,6 +45,7 @@ fn not_asked(g: u8, k: Condition) -> bool
         Condition::Resolving { .. } => true,
         Condition::Urgent { .. } => true,
         Condition::Long { .. } => true,
+        Condition::Held { .. } => true,
     }
 }
 
@@ -57,6 +60,7 @@ fn not_at(g: u8, i: u16, k: Condition) -> bool
         Condition::Resolving { group, place, .. } => if group == g { place != i } else { true },
         Condition::Urgent { .. } => true,
         Condition::Long { .. } => true,
+        Condition::Held { .. } => true,
     }
 }
 
@@ -71,5 +75,6 @@ pub fn records_apart(short: Condition, long: Condition) -> bool
         Condition::Resolving { group, place, .. } => not_at(group, place, long),
         Condition::Urgent { .. } => true,
         Condition::Long { .. } => true,
+        Condition::Held { .. } => true,
     }
 }

@@ -1,35 +1,36 @@
 // A record of `rehearse` that makes a call on the channel: the channel's own call, by what the record holds.
 use calendar_fields::calendar_fields;
-use call_fields::OfferFields;
-use call_fields::offer_fields;
 use number_lists::low_bytes;
 use number_lists::numbers_from;
 use rehearsing::Next;
 use rehearsing::Rehearsal;
 use rehearsing::answer_with;
 use rehearsing::end_with;
+use write_fields::WriteFields;
 ghost use mathlib.Core.Path.{_≡_};
 ghost use lib.ListN.{drop};
 ghost use Rattle.fields.specs.Fields.{parts};
 ghost use Rattle.number_lists.specs.NumberList.{listOf};
-ghost use Rattle.call_fields.specs.CallFields.{offerIn};
 ghost use Rattle.calendar_fields.specs.CalendarFields.{calendarIn};
-ghost use Rattle.rehearsing.specs.Rehearsing.{offerResult, slotResult, bareResult, calendarResult};
+ghost use Rattle.rehearsing.specs.Rehearsing.{writeResult, slotResult, bareResult, calendarResult};
 ghost use Rattle.rehearsing.specs.Rehearse.{reachedBy, resultBy};
 
-// An offer, whose numbers begin after `offer,`. 19: it breaks the form. Every other answer is a line.
-pub fn offer_record(r: Rehearsal, bytes: &[u8], next: usize, out: &mut [u8], at: usize) -> Next
-    ensures buffer { λ n. ⌜ now (out .exit)
-        ≡ resultBy r (offerResult r (offerIn (parts (drop 6 (now (bytes .entry)))))) next (now (out .entry)) at .buffer ⌝ }
-    ensures answer { λ n. ⌜ reachedBy n
-        ≡ resultBy r (offerResult r (offerIn (parts (drop 6 (now (bytes .entry)))))) next (now (out .entry)) at .answer ⌝ }
+// An offer, a hold, a commit or a withdrawal, by what was read of it. 19: it breaks the form. Every other answer is a line.
+pub fn write_record(
+    r: Rehearsal,
+    fields: WriteFields,
+    next: usize,
+    out: &mut [u8],
+    at: usize,
+) -> Next
+    ensures buffer { λ n. ⌜ now (out .exit) ≡ resultBy r (writeResult r fields) next (now (out .entry)) at .buffer ⌝ }
+    ensures answer { λ n. ⌜ reachedBy n ≡ resultBy r (writeResult r fields) next (now (out .entry)) at .answer ⌝ }
 {
-    let fields = offer_fields(bytes, 6);
     match fields {
-        OfferFields::Broken => end_with(r, 19, next, out, at),
-        OfferFields::Numbers(index, size) => {
+        WriteFields::Broken => end_with(r, 19, next, out, at),
+        WriteFields::At(index, w) => {
             let channel = r.channel;
-            let called = local_channel::offer(channel, index, size as usize);
+            let called = local_channel::write(channel, index, w);
             answer_with(r, called, next, out, at)
         }
     }

@@ -1,6 +1,6 @@
--- The numbers of an answer on a sound channel: a refusal's is one of the paper's, at most 21; a message taken has at most 255 slots; of a slot, the
--- senders are no more than the stations, a lone one's index and segment are a station's, and the slots delivered are no more than the
--- minislots heard and the senders. So the line of an answer has at most 233 bytes.
+-- The numbers of an answer on a sound channel: a refusal's is one of the paper's, at most 22; a message offered, held, committed or withdrawn
+-- has at most 255 slots; of a slot, the senders are no more than the stations, a lone one's index and segment are a station's, and the slots
+-- delivered are no more than the minislots heard and the senders. So the line of an answer has at most 233 bytes.
 -- Assumes nothing.
 use mathlib.Core.Path.{_≡_, refl}
 use mathlib.Core.Bool.{Bool, true, false, cond, _&&_}
@@ -9,7 +9,7 @@ use Prim.Native.Nat.{ℕ, zero, suc, _+_, _-_, _<_, _≤_}
 use native.Mathlib.Omega.{arith}
 use lib.Dec.{eqb}
 use lib.ListN.{length, getD, take, length-map, length-take}
-use borrow.Author.Tests.{eqb-true}
+use borrow.Author.Tests.{eqb-true, ltb-true}
 use Rattle.listlaws.specs.Lists.{each, onlyIf}
 use Rattle.message.specs.Message.{fitsMessage, slotsFor}
 use Rattle.message.proofs.Totals.{slots-bounds}
@@ -19,7 +19,7 @@ use Rattle.minislot.specs.declared.Feedback.the-variants.{Empty, Single, Collid
 use Rattle.rows.specs.Row.{readings, feedbacks}
 use Rattle.rules.specs.declared.Acted.{Acted}
 use Rattle.rules.specs.declared.Answer.{Answer}
-use Rattle.rules.specs.declared.Answer.the-variants.{Refused, Taken, Set, Went}
+use Rattle.rules.specs.declared.Answer.the-variants.{Refused, Taken, OnHold, Committed, Withdrawn, Set, Went}
 use Rattle.rules.specs.declared.Counters.{Counters}
 use Rattle.rules.specs.declared.Landed.{Landed}
 use Rattle.rules.specs.declared.Outcome.{Outcome}
@@ -28,8 +28,12 @@ use Rattle.rules.specs.declared.StationSlot.{StationSlot}
 use Rattle.rules.specs.declared.Turn.{Turn}
 use Rattle.rules.specs.declared.Turn.the-variants.{Owned as OwnedTurn, Urgent as UrgentTurn, Long as LongTurn, Resolve as ResolveTurn, Open as OpenTurn}
 use Rattle.rules.specs.declared.Condition.{Condition}
-use Rattle.rules.specs.declared.Condition.the-variants.{Free, Fresh, Asked, Resolving, Urgent, Long}
-use Rattle.rules.specs.Calls.{Call, Offer, Slot, Calendar}
+use Rattle.rules.specs.declared.Condition.the-variants.{Free, Held, Fresh, Asked, Resolving, Urgent, Long}
+use Rattle.rules.specs.declared.Which.{Which}
+use Rattle.rules.specs.declared.Which.the-variants.{ShortOne, LongOne}
+use Rattle.rules.specs.declared.Writing.{Writing}
+use Rattle.rules.specs.declared.Writing.the-variants.{Offer, Hold, Commit, Withdraw}
+use Rattle.rules.specs.Calls.{Call, Write, Slot, Calendar, writingAnswer}
 use Rattle.rules.specs.Calendars.{someFree}
 use Rattle.rules.specs.Refusing.{byNumber}
 use Rattle.rules.specs.Limits.{between}
@@ -42,107 +46,136 @@ use Rattle.rules.specs.Serving.{sends}
 use Rattle.rules.specs.Outcome.{successes, outcomeBy, outcomeOf}
 use Rattle.rules.specs.Stepping.{settledIn, isFresh, stays, actsOf, actsBeside, sender, stepOf}
 use Rattle.rules.specs.StationLimits.{stationWithin}
-use Rattle.rules.specs.StationCalls.{isFree, recordFor, takingNumberOf, slotNumberOf, slotOf, refusedSlot}
+use Rattle.rules.specs.StationCalls.{slotNumberOf, slotOf, refusedSlot}
+use Rattle.rules.specs.Writing.{recordIn, recordFor, isFree, isHeld}
+use Rattle.rules.specs.Writing.{newNumberOf, heldNumberOf, writingNumberAt, writes, writingNumberOf, writingTotalOf}
 use Rattle.rules.specs.Queueing.{stepOneOf}
 use Rattle.rules.proofs.LimitLaws.{Within, station-in}
 use Rattle.rules.proofs.Refusals.{test-passed}
 use Rattle.rules.proofs.Walking.{feedbacks-short}
 use Rattle.channel_rules.specs.Soundness.{soundTable, tableCounters, positionOf, isOnTable, entriesOn}
 use Rattle.channel_rules.specs.SoundMeaning.{stationAt}
-use Rattle.channel_rules.specs.ChannelCalls.{Channel, ChannelResult, hasStations, refused, stationOf, takenAt, channelOfferNumberOf, channelOfferOf, channelCall}
+use Rattle.channel_rules.specs.ChannelCalls.{Channel, ChannelResult, hasStations, refused, stationOf, writtenAt, channelWriteNumberOf, channelWriteOf, channelCall}
 use Rattle.channel_rules.specs.ChannelCalls.{blankRow, heardRow, feedbackHeard, slotsOf, slotsHeard, outcomeHeard, slotThrough, channelSlotNumberOf, channelSlotOf}
 use Rattle.channel_rules.specs.ChannelCalls.{calendarSet, channelCalendarNumberOf, channelCalendarOf}
 use Rattle.channel_rules.specs.ChannelCalls.{DataSent, speaks, dataIn, dataSent, loneIndex, loneSegment, deliveredNow}
 use Rattle.decimals.specs.Decimal.{digitsOf}
-use Rattle.call_records.specs.Words.{offerWord, slotWord, calendarWord}
-use Rattle.rules.proofs.Refusals.{unless-by, unless-low}
+use Rattle.decimals.specs.Printing.{recordOf}
+use Rattle.call_records.specs.Words.{offerWord, holdWord, commitWord, withdrawWord, slotWord, calendarWord}
+use Rattle.rules.proofs.Refusals.{unless-by}
 use Rattle.turn_letters.specs.Letters.{letterOf}
 use Rattle.answer_lines.specs.AnswerLines.{refusedWord, answerLine}
 use Rattle.rehearse_reads.specs.Bounds.{SoundChannel}
-use Rattle.rehearse_reads.proofs.LineBounds.{Held, AllHeld, line-within, number-short, numbers-short}
+use Rattle.rehearse_reads.proofs.LineBounds.{In64, AllIn64, line-within, number-short, numbers-short}
 use Rattle.rehearse_reads.proofs.StationBounds.{Small, small-both, resolution-most}
 use Rattle.rehearse_reads.proofs.ShowBounds.{counters-within}
 
 -- ---- numbers of refusal
 
-taking-low : (s : Station) (bytes : ℕ) → takingNumberOf s bytes ≤ 19
-taking-low s bytes = unless-low (fitsMessage bytes) 10 _ (omega arith) (unless-low (isFree (recordFor s bytes)) 9 0 (omega arith) (omega arith))
+abbrev Low : ℕ → Type 0
+Low n = n ≤ 22
 
-offer-low : (ch : Channel) (index bytes : ℕ) → channelOfferNumberOf ch index bytes ≤ 19
-unfolding channelOfferNumberOf
-offer-low ch index bytes =
-    unless-low (hasStations (ch .stations)) 14 _ (omega arith)
-    (unless-low (soundTable (ch .stations) (ch .wire)) 18 _ (omega arith)
-    (unless-low (isOnTable (ch .stations) index) 16 _ (omega arith) (taking-low (stationOf ch index) bytes)))
+new-low : (bytes : ℕ) (k : Condition) → newNumberOf bytes k ≤ 22
+new-low bytes k = unless-by Low (fitsMessage bytes) 10 _ (omega arith) (unless-by Low (isFree k) 9 0 (omega arith) (omega arith))
 
-slot-low : (ch : Channel) (picks : List ℕ) → channelSlotNumberOf ch picks ≤ 19
+held-low : (k : Condition) → heldNumberOf k ≤ 22
+held-low k = unless-by Low (isHeld k) 22 0 (omega arith) (omega arith)
+
+writing-low : (w : Writing) (k : Condition) → writingNumberAt w k ≤ 22
+writing-low (Offer bytes) k = new-low bytes k
+writing-low (Hold bytes) k = new-low bytes k
+writing-low (Commit o) k = held-low k
+writing-low (Withdraw o) k = held-low k
+
+write-low : (ch : Channel) (index : ℕ) (w : Writing) → channelWriteNumberOf ch index w ≤ 22
+unfolding channelWriteNumberOf
+write-low ch index w =
+    unless-by Low (hasStations (ch .stations)) 14 _ (omega arith)
+    (unless-by Low (soundTable (ch .stations) (ch .wire)) 18 _ (omega arith)
+    (unless-by Low (isOnTable (ch .stations) index) 16 _ (omega arith) (writing-low w (recordIn (writes w) (stationOf ch index)))))
+
+slot-low : (ch : Channel) (picks : List ℕ) → channelSlotNumberOf ch picks ≤ 22
 unfolding channelSlotNumberOf
 slot-low ch picks =
-    unless-low (hasStations (ch .stations)) 14 _ (omega arith)
-    (unless-low (soundTable (ch .stations) (ch .wire)) 18 _ (omega arith)
-    (unless-low (eqb (length picks) (length (ch .stations))) 17 _ (omega arith)
-    (unless-low (each (λ (pick : ℕ). between 1 pick (tableCounters (ch .stations) .minislots)) picks) 11 _ (omega arith)
-    (unless-low (stepOneOf (tableCounters (ch .stations)) (feedbackHeard ch) .fits) 7 0 (omega arith) (omega arith)))))
+    unless-by Low (hasStations (ch .stations)) 14 _ (omega arith)
+    (unless-by Low (soundTable (ch .stations) (ch .wire)) 18 _ (omega arith)
+    (unless-by Low (eqb (length picks) (length (ch .stations))) 17 _ (omega arith)
+    (unless-by Low (each (λ (pick : ℕ). between 1 pick (tableCounters (ch .stations) .minislots)) picks) 11 _ (omega arith)
+    (unless-by Low (stepOneOf (tableCounters (ch .stations)) (feedbackHeard ch) .fits) 7 0 (omega arith) (omega arith)))))
 
-calendar-low : (ch : Channel) (entries : List ℕ) → channelCalendarNumberOf ch entries ≤ 21
+calendar-low : (ch : Channel) (entries : List ℕ) → channelCalendarNumberOf ch entries ≤ 22
 unfolding channelCalendarNumberOf
 calendar-low ch entries =
     unless-by Low (hasStations (ch .stations)) 14 _ (omega arith)
     (unless-by Low (soundTable (ch .stations) (ch .wire)) 18 _ (omega arith)
     (unless-by Low (entriesOn (ch .stations) entries) 20 _ (omega arith) (unless-by Low (someFree entries) 21 0 (omega arith) (omega arith))))
-  where
-    Low : ℕ → Type 0
-    Low n = n ≤ 21
 
 -- ---- an answer's numbers
 
-abbrev pub AnswerHeld : Answer → Type 0
-AnswerHeld (Refused number) = number ≤ 21
-AnswerHeld (Taken total) = total ≤ 255
-AnswerHeld Set = Unit {0}
-AnswerHeld (Went turn senders index segment delivered) = (senders ≤ 64) × (index ≤ 923) × (segment ≤ 255) × (delivered ≤ 72)
+abbrev pub AnswerSmall : Answer → Type 0
+AnswerSmall (Refused number) = number ≤ 22
+AnswerSmall (Taken total) = total ≤ 255
+AnswerSmall (OnHold total) = total ≤ 255
+AnswerSmall (Committed total) = total ≤ 255
+AnswerSmall (Withdrawn total) = total ≤ 255
+AnswerSmall Set = Unit {0}
+AnswerSmall (Went turn senders index segment delivered) = (senders ≤ 64) × (index ≤ 923) × (segment ≤ 255) × (delivered ≤ 72)
 
 -- by the number of the call
-by-both : (ch : Channel) (n : ℕ) (through : ChannelResult) → n ≤ 21 → (n ≡ 0 → AnswerHeld (through .answer))
-    → AnswerHeld (byNumber n (refused ch) through .answer)
+by-both : (ch : Channel) (n : ℕ) (through : ChannelResult) → n ≤ 22 → (n ≡ 0 → AnswerSmall (through .answer))
+    → AnswerSmall (byNumber n (refused ch) through .answer)
 by-both ch n through low t = go (eqb n 0) refl
   where
-    go : (b : Bool) → eqb n 0 ≡ b → AnswerHeld (cond b through (refused ch n) .answer)
+    go : (b : Bool) → eqb n 0 ≡ b → AnswerSmall (cond b through (refused ch n) .answer)
     go true e = t (eqb-true n 0 e)
     go false e = low
 
--- ---- an offer, and a calendar, which answers no number
+-- ---- a calendar, which answers no number
 
-calendar-held : (ch : Channel) (entries : List ℕ) → AnswerHeld (channelCalendarOf ch entries .answer)
+calendar-small : (ch : Channel) (entries : List ℕ) → AnswerSmall (channelCalendarOf ch entries .answer)
 unfolding channelCalendarOf
-calendar-held ch entries = by-both ch (channelCalendarNumberOf ch entries) (calendarSet ch entries) (calendar-low ch entries) (λ z. tt)
+calendar-small ch entries = by-both ch (channelCalendarNumberOf ch entries) (calendarSet ch entries) (calendar-low ch entries) (λ z. tt)
 
-offer-held : (ch : Channel) (index bytes : ℕ) → AnswerHeld (channelOfferOf ch index bytes .answer)
-unfolding channelOfferOf channelOfferNumberOf
-offer-held ch index bytes =
-    by-both ch (channelOfferNumberOf ch index bytes) (takenAt ch (positionOf index (ch .stations)) bytes) (omega (arith, offer-low ch index bytes)) taken
-  where
-    taken : channelOfferNumberOf ch index bytes ≡ 0 → slotsFor bytes ≤ 255
-    taken z =
-        let p₁ = test-passed (hasStations (ch .stations)) 14 _ refl z in
-        let p₂ = test-passed (soundTable (ch .stations) (ch .wire)) 18 _ refl (p₁ .1) in
-        let p₃ = test-passed (isOnTable (ch .stations) index) 16 _ refl (p₂ .1) in
-        let p₄ = test-passed (fitsMessage bytes) 10 _ refl (p₃ .1) in
-        slots-bounds bytes (p₄ .0) .1
-
--- ---- a slot: what one station sends
+-- ---- an offer, a hold, a commit and a withdrawal: the total is that of a length, or that of a message that is held
 
 small-total : (x : Condition) → Small x → totalOf x ≤ 255
 small-total Free w = omega arith
+small-total (Held t) w = w
 small-total (Fresh t) w = w
 small-total (Asked g j t) w = w .2
 small-total (Resolving g i t) w = w .2
 small-total (Urgent i) w = omega arith
 small-total (Long f l t) w = w .2
 
+record-small : (o : Which) (s : Station) → stationWithin s ≡ true → totalOf (recordIn o s) ≤ 255
+record-small ShortOne s e = small-total (s .short .condition) (small-both s e .0)
+record-small LongOne s e = small-total (s .long .condition) (small-both s e .1)
+
+new-small : (bytes : ℕ) (k : Condition) → newNumberOf bytes k ≡ 0 → slotsFor bytes ≤ 255
+new-small bytes k z = slots-bounds bytes (test-passed (fitsMessage bytes) 10 _ refl z .0) .1
+
+written-small : (w : Writing) (s : Station) → stationWithin s ≡ true → writingNumberOf s w ≡ 0 → AnswerSmall (writingAnswer w (writingTotalOf s w))
+written-small (Offer bytes) s e z = new-small bytes (recordIn (recordFor bytes) s) z
+written-small (Hold bytes) s e z = new-small bytes (recordIn (recordFor bytes) s) z
+written-small (Commit o) s e z = record-small o s e
+written-small (Withdraw o) s e z = record-small o s e
+
+write-small : (ch : Channel) → SoundChannel ch → (index : ℕ) (w : Writing) → AnswerSmall (channelWriteOf ch index w .answer)
+unfolding channelWriteOf channelWriteNumberOf
+write-small ch s index w =
+    by-both ch (channelWriteNumberOf ch index w) (writtenAt ch (positionOf index (ch .stations)) w) (write-low ch index w) (λ z.
+    let p₁ = test-passed (hasStations (ch .stations)) 14 _ refl z in
+    let p₂ = test-passed (soundTable (ch .stations) (ch .wire)) 18 _ refl (p₁ .1) in
+    let p₃ = test-passed (isOnTable (ch .stations) index) 16 _ refl (p₂ .1) in
+    let k = positionOf index (ch .stations) in
+    written-small w (stationOf ch index) (s .sound .within k (ltb-true k (length (ch .stations)) (p₃ .0))) (p₃ .1))
+
+-- ---- a slot: what one station sends
+
 settled-few : (landed : List Landed) (g : ℕ) (x : Condition) → totalOf x ≤ 255 → totalOf (settledIn landed g x) ≤ 255
 unfolding settledIn
 settled-few landed g Free h = h
+settled-few landed g (Held t) h = h
 settled-few landed g (Fresh t) h = h
 settled-few landed g (Asked y j t) h = go (eqb y g) (getD landed (j - 1) (at Gone) .landing)
   where
@@ -164,12 +197,14 @@ sends-few : (turn : Turn) (r g : ℕ) (x : Condition) → totalOf x ≤ 255 → 
 unfolding sends
 sends-few (OwnedTurn x) r g k h = omega arith
 sends-few UrgentTurn r g Free h = omega arith
+sends-few UrgentTurn r g (Held t) h = omega arith
 sends-few UrgentTurn r g (Fresh t) h = omega arith
 sends-few UrgentTurn r g (Asked y j t) h = omega arith
 sends-few UrgentTurn r g (Resolving y i t) h = omega arith
 sends-few UrgentTurn r g (Urgent i) h = if-few (eqb i 1) 1 (omega arith)
 sends-few UrgentTurn r g (Long f l t) h = omega arith
 sends-few LongTurn r g Free h = omega arith
+sends-few LongTurn r g (Held t) h = omega arith
 sends-few LongTurn r g (Fresh t) h = omega arith
 sends-few LongTurn r g (Asked y j t) h = omega arith
 sends-few LongTurn r g (Resolving y i t) h = omega arith
@@ -285,10 +320,10 @@ heard-few ch h =
     let row = getD (ch .wire) (tableCounters (ch .stations) .next - 1) blankRow .minislots in
     omega (arith, feedbacks-short (wordsOf (take m row)) (countsOf (take m row)), length-map (take m row) (λ (s : Minislot). s .word), length-take m row)
 
-slot-held : (ch : Channel) → SoundChannel ch → (picks : List ℕ) → AnswerHeld (channelSlotOf ch picks .answer)
+slot-small : (ch : Channel) → SoundChannel ch → (picks : List ℕ) → AnswerSmall (channelSlotOf ch picks .answer)
 unfolding channelSlotOf outcomeBy
-slot-held ch s picks =
-    by-both ch (channelSlotNumberOf ch picks) (slotThrough ch (outcomeHeard ch) (slotsHeard ch picks)) (omega (arith, slot-low ch picks)) (λ z.
+slot-small ch s picks =
+    by-both ch (channelSlotNumberOf ch picks) (slotThrough ch (outcomeHeard ch) (slotsHeard ch picks)) (slot-low ch picks) (λ z.
     let sent = dataSent (slotsHeard ch picks) in
     let p = all-send (wordsOf (heardRow ch)) (countsOf (heardRow ch)) (ch .stations) picks (s .sound .within) in
     let l = lone sent (p .1) in
@@ -306,24 +341,31 @@ slot-held ch s picks =
       ),
     ))
 
-pub call-held : (ch : Channel) → SoundChannel ch → (call : Call) → AnswerHeld (channelCall ch call .answer)
-call-held ch s (Offer index bytes) = offer-held ch index bytes
-call-held ch s (Slot picks) = slot-held ch s picks
-call-held ch s (Calendar entries) = calendar-held ch entries
+pub call-small : (ch : Channel) → SoundChannel ch → (call : Call) → AnswerSmall (channelCall ch call .answer)
+call-small ch s (Write index w) = write-small ch s index w
+call-small ch s (Slot picks) = slot-small ch s picks
+call-small ch s (Calendar entries) = calendar-small ch entries
 
 -- ---- THE LINE
 
-pub answer-line : (k group : ℕ) (c : Counters) (a : Answer) → Held k → Held group → Within c → AnswerHeld a → length (answerLine k group c a) ≤ 233
+-- of one number
+number-line : (k : ℕ) (word : List ℕ) (n : ℕ) → In64 k → length word ≤ 20 → In64 n → length (recordOf (digitsOf k ∷ word ∷ digitsOf n ∷ [])) ≤ 233
+number-line k word n hk short hn =
+    let l = line-within (digitsOf k ∷ word ∷ digitsOf n ∷ []) (omega (arith, number-short k hk, short, number-short n hn)) in
+    omega (arith, l)
+
+pub answer-line : (k group : ℕ) (c : Counters) (a : Answer) → In64 k → In64 group → Within c → AnswerSmall a → length (answerLine k group c a) ≤ 233
 unfolding answerLine
-answer-line k group c (Refused number) hk hg w h =
-    let l = line-within (digitsOf k ∷ refusedWord ∷ digitsOf number ∷ []) (omega (arith, number-short k hk, number-short number (omega arith))) in omega (arith, l)
-answer-line k group c (Taken total) hk hg w h =
-    let l = line-within (digitsOf k ∷ offerWord ∷ digitsOf total ∷ []) (omega (arith, number-short k hk, number-short total (omega arith))) in omega (arith, l)
+answer-line k group c (Refused number) hk hg w h = number-line k refusedWord number hk (omega arith) (omega arith)
+answer-line k group c (Taken total) hk hg w h = number-line k offerWord total hk (omega arith) (omega arith)
+answer-line k group c (OnHold total) hk hg w h = number-line k holdWord total hk (omega arith) (omega arith)
+answer-line k group c (Committed total) hk hg w h = number-line k commitWord total hk (omega arith) (omega arith)
+answer-line k group c (Withdrawn total) hk hg w h = number-line k withdrawWord total hk (omega arith) (omega arith)
 answer-line k group c Set hk hg w h =
     let l = line-within (digitsOf k ∷ calendarWord ∷ []) (omega (arith, number-short k hk)) in omega (arith, l)
 answer-line k group c (Went turn senders index segment delivered) hk hg w h =
     let rq = getD (c .resolution) (group - 1) 0 in
     let numbers = senders ∷ index ∷ segment ∷ delivered ∷ c .urgent ∷ c .long ∷ rq ∷ [] in
-    let held : AllHeld numbers = omega (arith, h, w .urgent, w .long, resolution-most c w (group - 1)) in
+    let in64 : AllIn64 numbers = omega (arith, h, w .urgent, w .long, resolution-most c w (group - 1)) in
     line-within (digitsOf k ∷ slotWord ∷ digitsOf group ∷ (letterOf turn ∷ []) ∷ map digitsOf numbers)
-    (number-short k hk, (omega arith, (number-short group hg, (omega arith, numbers-short numbers held))))
+    (number-short k hk, (omega arith, (number-short group hg, (omega arith, numbers-short numbers in64))))

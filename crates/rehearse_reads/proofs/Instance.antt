@@ -16,10 +16,12 @@ use Rattle.number_lists.specs.NumberList.{isNumber, brokenList, listWith, listO
 use Rattle.call_records.specs.declared.Kind.{Kind}
 use Rattle.call_records.specs.declared.Kind.the-variants as kind
 use Rattle.call_records.specs.Words.{kindOf}
-use Rattle.call_fields.specs.declared.OfferFields.{OfferFields}
-use Rattle.call_fields.specs.declared.OfferFields.the-variants.{Numbers, Broken}
 use Rattle.call_fields.specs.declared.StartFields.{StartFields}
 use Rattle.call_fields.specs.CallFields.{offerIn, brokenStart, startIn}
+use Rattle.which_fields.specs.WhichFields.{whichIn}
+use Rattle.write_fields.specs.declared.WriteFields.{WriteFields}
+use Rattle.write_fields.specs.declared.WriteFields.the-variants.{At, Broken}
+use Rattle.write_fields.specs.WriteFields.{newBy, heldBy}
 use Rattle.calendar_fields.specs.CalendarFields.{brokenCalendar, calendarIn}
 use Rattle.answer_lines.specs.AnswerLines.{answerLine}
 use Rattle.show_lines.specs.ShowLines.{showLines}
@@ -32,7 +34,8 @@ use Rattle.programs.specs.Program.{Result, Ends}
 use Rattle.rules.specs.declared.Counters.{Counters}
 use Rattle.rules.specs.declared.StartAnswer.{StartAnswer}
 use Rattle.rules.specs.declared.StartAnswer.the-variants.{Ready, Refused}
-use Rattle.rules.specs.Calls.{Call, Offer, Slot, Calendar}
+use Rattle.rules.specs.declared.Writing.the-variants.{Offer, Hold, Commit, Withdraw}
+use Rattle.rules.specs.Calls.{Call, Write, Slot, Calendar}
 use Rattle.rules.specs.Limits.{between}
 use Rattle.rules.specs.Refusing.{byNumber}
 use Rattle.rules.specs.Starting.{inRanges}
@@ -40,22 +43,22 @@ use Rattle.rules.specs.StationCalls.{isIndex}
 use Rattle.places.specs.Places.{differ}
 use Rattle.channel_rules.specs.ChannelCalls.{Channel, refusedBeginning, newChannel, channelStartNumberOf, channelStartOf, channelCall}
 use Rattle.local_channel.specs.declared.LocalChannel.{LocalChannel}
-use Rattle.local_channel.specs.Local.{lentBy, localAfter, localCalled, localStartOf, localOfferOf, localSlotOf, localCalendarOf}
+use Rattle.local_channel.specs.Local.{lentBy, localAfter, localCalled, localStartOf, localWriteOf, localSlotOf, localCalendarOf}
 use Rattle.rehearsing.specs.declared.Rehearsal.{Rehearsal}
 use Rattle.rehearsing.specs.Rehearsing.{blankChannel, countersOf, indexesOf, startedBy, startedResult, startOf, startResult}
-use Rattle.rehearsing.specs.Rehearsing.{calledResult, offerResult, slotResult, bareResult, calendarResult, showResult, callBy, rehearseRecord}
+use Rattle.rehearsing.specs.Rehearsing.{calledResult, writeResult, slotResult, bareResult, calendarResult, showResult, callBy, rehearseRecord}
 use Rattle.rehearsing.specs.Rehearse.{rehearseProgram}
 use Rattle.reads.specs.Lawful.{Allowed, Lawful}
 use Rattle.reads.proofs.InReads.{in-pieces}
 use Rattle.rehearse_reads.specs.Rehearsed.{RehearseInPieces, RehearseWhole}
-use Rattle.rehearse_reads.proofs.LineBounds.{Held}
+use Rattle.rehearse_reads.proofs.LineBounds.{In64}
 use Rattle.rehearse_reads.proofs.ShowBounds.{show-within}
-use Rattle.rehearse_reads.proofs.AnswerBounds.{call-held, answer-line}
+use Rattle.rehearse_reads.proofs.AnswerBounds.{call-small, answer-line}
 use Rattle.rehearse_reads.proofs.GoodKept.{Begun, begun-sound, first-lent, begun-within, call-kept, start-begun}
 
 -- what holds of all that `rehearse` may come to know
 abbrev pub Good : Rehearsal → Type 0
-Good r = Held (r .place) × (1 < r .place → Begun (r .channel))
+Good r = In64 (r .place) × (1 < r .place → Begun (r .channel))
 
 -- ---- numbers
 
@@ -154,17 +157,17 @@ module _ (r : Rehearsal) (good : Good r) where
         let w = begun-within c b in
         let k = r .place - 1 in
         let line = answerLine k (countersOf c .next) (countersOf after) answer in
-        let held = call-held (lentBy c) (begun-sound c b) call in
+        let small = call-small (lentBy c) (begun-sound c b) call in
         let l = answer-line k (countersOf c .next) (countersOf after) answer (omega (arith, good .0)) (omega (arith, w .next, w .groups))
-        (begun-within after kept) held in (
+        (begun-within after kept) small in (
           (next-place (r .place) (good .0), λ z. kept),
           omega (arith, l, ap length (append-nil line)),
         )
 
-    offer-fits : (f : OfferFields) → Fits (offerResult r f)
-    unfolding offerResult localOfferOf
-    offer-fits (Numbers index bytes) = called-fits (Offer index bytes)
-    offer-fits Broken = ends-fit 19 (omega arith)
+    write-fits : (f : WriteFields) → Fits (writeResult r f)
+    unfolding writeResult localWriteOf
+    write-fits (At index w) = called-fits (Write index w)
+    write-fits Broken = ends-fit 19 (omega arith)
 
     slot-fits : (ps : List (List ℕ)) → Fits (slotResult r (listOf 255 ps))
     unfolding slotResult localSlotOf
@@ -188,7 +191,10 @@ module _ (r : Rehearsal) (good : Good r) where
         )
 
     call-fits : (bytes : List ℕ) (k : Kind) → Fits (callBy r bytes k)
-    call-fits bytes kind.Offer = offer-fits (offerIn (parts (drop 6 bytes)))
+    call-fits bytes kind.Offer = write-fits (newBy Offer (offerIn (parts (drop 6 bytes))))
+    call-fits bytes kind.Hold = write-fits (newBy Hold (offerIn (parts (drop 5 bytes))))
+    call-fits bytes kind.Commit = write-fits (heldBy Commit (whichIn (parts (drop 7 bytes))))
+    call-fits bytes kind.Withdraw = write-fits (heldBy Withdraw (whichIn (parts (drop 9 bytes))))
     call-fits bytes kind.Slot = slot-fits (parts (drop 5 bytes))
     call-fits bytes kind.BareSlot = bare-fits
     call-fits bytes kind.Calendar = calendar-fits (parts (drop 9 bytes))

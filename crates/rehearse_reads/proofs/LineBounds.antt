@@ -26,17 +26,17 @@ line-within (f ∷ []) s = omega (arith, length-append f (13 ∷ 10 ∷ []), s .
 line-within (f ∷ g ∷ fs) s = omega (arith, length-append f (44 ∷ recordOf (g ∷ fs)), s .0, line-within (g ∷ fs) (s .1))
 
 -- a number of 64 bits
-abbrev pub Held : ℕ → Type 0
-Held n = n ≤ 18446744073709551615
+abbrev pub In64 : ℕ → Type 0
+In64 n = n ≤ 18446744073709551615
 
-abbrev pub AllHeld : List ℕ → Type 0
-AllHeld [] = Unit {0}
-AllHeld (n ∷ l) = Held n × AllHeld l
+abbrev pub AllIn64 : List ℕ → Type 0
+AllIn64 [] = Unit {0}
+AllIn64 (n ∷ l) = In64 n × AllIn64 l
 
-pub number-short : (n : ℕ) → Held n → length (digitsOf n) ≤ 20
+pub number-short : (n : ℕ) → In64 n → length (digitsOf n) ≤ 20
 number-short n h = digits-few 19 n (omega arith)
 
-pub numbers-short : (l : List ℕ) → AllHeld l → Short (map digitsOf l)
+pub numbers-short : (l : List ℕ) → AllIn64 l → Short (map digitsOf l)
 numbers-short [] h = tt
 numbers-short (n ∷ l) h = (number-short n (h .0), numbers-short l (h .1))
 

@@ -18,7 +18,7 @@ use Rattle.wire_lines.specs.WireLines.{wireLine, groupsLines}
 use Rattle.counter_lines.specs.CounterLines.{countersLine, ownersLine, groupLine}
 use Rattle.show_lines.specs.ShowLines.{showLines}
 use Rattle.rehearse_reads.specs.Bounds.{SoundChannel, ShownWithin}
-use Rattle.rehearse_reads.proofs.LineBounds.{Held, joined-two, gathered-within, tabulated-within}
+use Rattle.rehearse_reads.proofs.LineBounds.{In64, joined-two, gathered-within, tabulated-within}
 use Rattle.rehearse_reads.proofs.StationBounds.{counters-line, owners-line, group-line, message-lines}
 use Rattle.rehearse_reads.proofs.WireBounds.{wire-line}
 
@@ -26,7 +26,7 @@ use Rattle.rehearse_reads.proofs.WireBounds.{wire-line}
 pub counters-within : (ch : Channel) → SoundChannel ch → Within (tableCounters (ch .stations))
 counters-within ch s = within-limits (tableCounters (ch .stations)) (station-in (stationAt (ch .stations) 0) (s .sound .within 0 (s .some)) .counters)
 
-module _ (ch : Channel) (s : SoundChannel ch) (k : ℕ) (h : Held k) where
+module _ (ch : Channel) (s : SoundChannel ch) (k : ℕ) (h : In64 k) where
   abbrev c : Counters
   c = tableCounters (ch .stations)
 

@@ -17,7 +17,7 @@ use Rattle.listlaws.proofs.Table.{every-at}
 use Rattle.rules.specs.declared.Counters.{Counters}
 use Rattle.rules.specs.declared.Station.{Station}
 use Rattle.rules.specs.declared.Condition.{Condition}
-use Rattle.rules.specs.declared.Condition.the-variants.{Free, Fresh, Asked, Resolving, Urgent, Long}
+use Rattle.rules.specs.declared.Condition.the-variants.{Free, Held, Fresh, Asked, Resolving, Urgent, Long}
 use Rattle.rules.specs.Calendars.{entryWithin}
 use Rattle.rules.specs.Limits.{between, resolutionWithin, openedWithin, groupsWithin}
 use Rattle.rules.specs.StationLimits.{isTotal, resolutionAt, conditionWithin, stationWithin}
@@ -28,7 +28,7 @@ use Rattle.programs.specs.Advancing.{joined}
 use Rattle.condition_lines.specs.ConditionLines.{messageWord, conditionFields, conditionLine}
 use Rattle.message_lines.specs.MessageLines.{messageLines}
 use Rattle.counter_lines.specs.CounterLines.{ownersWord, markWord, countersLine, ownersLine, groupLine}
-use Rattle.rehearse_reads.proofs.LineBounds.{Short, Held, AllHeld, line-within, number-short, numbers-short}
+use Rattle.rehearse_reads.proofs.LineBounds.{Short, In64, AllIn64, line-within, number-short, numbers-short}
 
 -- ---- counters
 
@@ -50,39 +50,39 @@ resolution-most c w i =
     go true e = leb-true (getD (c .resolution) i 0) 4095 e
     go false e = let z = eqb-true (getD (c .resolution) i 0) 0 e in omega arith
 
-pub counters-line : (k : ℕ) (c : Counters) → Held k → Within c → length (countersLine k c) ≤ 149
+pub counters-line : (k : ℕ) (c : Counters) → In64 k → Within c → length (countersLine k c) ≤ 149
 unfolding countersLine
 counters-line k c h w =
     let numbers = c .minislots ∷ c .groups ∷ c .next ∷ c .urgent ∷ c .long ∷ [] in
-    let held : AllHeld numbers = omega (arith, w .minislots, w .groups, w .next, w .urgent, w .long) in
-    line-within _ (number-short k h, (omega arith, numbers-short numbers held))
+    let in64 : AllIn64 numbers = omega (arith, w .minislots, w .groups, w .next, w .urgent, w .long) in
+    line-within _ (number-short k h, (omega arith, numbers-short numbers in64))
 
 -- an entry is 65,535 or an index
-entries-held : (l : List ℕ) → each entryWithin l ≡ true → AllHeld l
-entries-held [] e = tt
-entries-held (x ∷ l) e =
+entries-in64 : (l : List ℕ) → each entryWithin l ≡ true → AllIn64 l
+entries-in64 [] e = tt
+entries-in64 (x ∷ l) e =
     let p = and-both (entryWithin x) (each entryWithin l) e in
-    (go (eqb x 65535) (leb x 923) refl refl (p .0), entries-held l (p .1))
+    (go (eqb x 65535) (leb x 923) refl refl (p .0), entries-in64 l (p .1))
   where
-    go : (a b : Bool) → eqb x 65535 ≡ a → leb x 923 ≡ b → a || b ≡ true → Held x
+    go : (a b : Bool) → eqb x 65535 ≡ a → leb x 923 ≡ b → a || b ≡ true → In64 x
     go true b f g t = let z = eqb-true x 65535 f in omega arith
     go false true f g t = let z = leb-true x 923 g in omega arith
     go false false f g t = let z : _≡_ {A = ℕ} 0 1 = cc in absurd (omega arith)
 
-pub owners-line : (k : ℕ) (c : Counters) → Held k → Within c → length (ownersLine k c) ≤ 569
+pub owners-line : (k : ℕ) (c : Counters) → In64 k → Within c → length (ownersLine k c) ≤ 569
 unfolding ownersLine
 owners-line k c h w =
     let i = calendar-in c (w .calendar) in
     let numbers = c .position ∷ c .calendar in
-    let held : AllHeld numbers = (omega (arith, i .position), entries-held (c .calendar) (i .entries)) in
-    let l = line-within (digitsOf k ∷ ownersWord ∷ map digitsOf numbers) (number-short k h, (omega arith, numbers-short numbers held)) in
+    let in64 : AllIn64 numbers = (omega (arith, i .position), entries-in64 (c .calendar) (i .entries)) in
+    let l = line-within (digitsOf k ∷ ownersWord ∷ map digitsOf numbers) (number-short k h, (omega arith, numbers-short numbers in64)) in
     omega (arith, l, length-map (c .calendar) digitsOf, i .size)
 
 mark-short : (b : Bool) → length (markWord b) ≤ 20
 mark-short true = omega arith
 mark-short false = omega arith
 
-pub group-line : (k : ℕ) (c : Counters) (g : ℕ) → Held k → Within c → g ≤ 8 → length (groupLine k c g) ≤ 107
+pub group-line : (k : ℕ) (c : Counters) (g : ℕ) → In64 k → Within c → g ≤ 8 → length (groupLine k c g) ≤ 107
 unfolding groupLine
 group-line k c g h w l =
     let r = number-short (getD (c .resolution) (g - 1) 0) (omega (arith, resolution-most c w (g - 1))) in
@@ -96,6 +96,7 @@ total-most t e = between-bounds 1 t 255 e .1
 -- the numbers that a condition holds
 abbrev pub Small : Condition → Type 0
 Small Free = Unit {0}
+Small (Held t) = t ≤ 255
 Small (Fresh t) = t ≤ 255
 Small (Asked g j t) = (g ≤ 8) × (j ≤ 8) × (t ≤ 255)
 Small (Resolving g i t) = (g ≤ 8) × (i ≤ 4095) × (t ≤ 255)
@@ -105,6 +106,7 @@ Small (Long f l t) = (f ≤ 65536) × (l ≤ 255) × (t ≤ 255)
 pub small : (c : Counters) → Within c → (x : Condition) → conditionWithin c x ≡ true → Small x
 unfolding conditionWithin
 small c w Free e = tt
+small c w (Held t) e = total-most t e
 small c w (Fresh t) e = total-most t e
 small c w (Asked g j t) e =
     let (p, q) = and-both (between 1 g (c .groups) && between 1 j (c .minislots)) (isTotal t) e in
@@ -134,13 +136,14 @@ Fits x = (length (conditionFields x) ≤ 4) × Short (conditionFields x)
 
 condition-fits : (x : Condition) → Small x → Fits x
 condition-fits Free s = omega arith
+condition-fits (Held t) s = omega (arith, number-short t (omega arith))
 condition-fits (Fresh t) s = omega (arith, number-short t (omega arith))
 condition-fits (Asked g j t) s = omega (arith, number-short g (omega (arith, s)), number-short j (omega (arith, s)), number-short t (omega (arith, s)))
 condition-fits (Resolving g i t) s = omega (arith, number-short g (omega (arith, s)), number-short i (omega (arith, s)), number-short t (omega (arith, s)))
 condition-fits (Urgent i) s = omega (arith, number-short i (omega arith))
 condition-fits (Long f l t) s = omega (arith, number-short f (omega (arith, s)), number-short l (omega (arith, s)), number-short t (omega (arith, s)))
 
-condition-line : (k index : ℕ) (x : Condition) → Held k → index ≤ 923 → Small x → length (conditionLine k index x) ≤ 149
+condition-line : (k index : ℕ) (x : Condition) → In64 k → index ≤ 923 → Small x → length (conditionLine k index x) ≤ 149
 unfolding conditionLine
 condition-line k index x h i s =
     let f = condition-fits x s in
@@ -155,7 +158,7 @@ small-both s e =
     let w = within-limits (s .counters) (i .counters) in
     (small (s .counters) w (s .short .condition) (i .records .short), small (s .counters) w (s .long .condition) (i .records .long))
 
-pub message-lines : (k : ℕ) (s : Station) → Held k → stationWithin s ≡ true → length (joined (messageLines k s)) ≤ 298
+pub message-lines : (k : ℕ) (s : Station) → In64 k → stationWithin s ≡ true → length (joined (messageLines k s)) ≤ 298
 unfolding messageLines
 message-lines k s h e =
     let index = station-in s e .index in

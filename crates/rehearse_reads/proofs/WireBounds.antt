@@ -18,14 +18,14 @@ use Rattle.decimals.specs.Decimal.{digitsOf}
 use Rattle.rules.specs.declared.Station.{Station}
 use Rattle.rules.specs.declared.WireRow.{WireRow}
 use Rattle.rules.specs.declared.Condition.{Condition}
-use Rattle.rules.specs.declared.Condition.the-variants.{Free, Fresh, Asked, Resolving, Urgent, Long}
+use Rattle.rules.specs.declared.Condition.the-variants.{Free, Held, Fresh, Asked, Resolving, Urgent, Long}
 use Rattle.rules.specs.StationLimits.{stationWithin}
 use Rattle.rules.proofs.LimitLaws.{station-in}
 use Rattle.channel_rules.specs.Soundness.{messagesOf, askedRequest, askedRequests, askedMinislot}
 use Rattle.channel_rules.specs.SoundMeaning.{stationAt, Sound}
 use Rattle.channel_rules.specs.ChannelCalls.{blankRow}
 use Rattle.wire_lines.specs.WireLines.{wireWord, cells, wireLine}
-use Rattle.rehearse_reads.proofs.LineBounds.{Held, AllHeld, line-within, number-short, numbers-short}
+use Rattle.rehearse_reads.proofs.LineBounds.{In64, AllIn64, line-within, number-short, numbers-short}
 use Rattle.rehearse_reads.proofs.StationBounds.{Small, small-both}
 
 -- ---- what stations send together
@@ -57,6 +57,7 @@ only-sendable false r i t = tt
 module _ (g j : ℕ) where
   asked-one : (index : ℕ) (x : Condition) → index ≤ 923 → Small x → Sendable (askedRequest g j index x)
   asked-one index Free h w = tt
+  asked-one index (Held t) h w = tt
   asked-one index (Fresh t) h w = tt
   asked-one index (Asked x y t) h w = only-sendable (eqb x g && eqb y j) (record { index = index; total = t }) (omega arith) (omega (arith, w))
   asked-one index (Resolving x y t) h w = tt
@@ -78,9 +79,9 @@ module _ (g j : ℕ) where
 -- ---- a row of the wire
 
 -- the words and counts of a row's first minislots
-cells-held : (l : List Minislot) → ((k : ℕ) → k < length l → Low (getD l k silent)) → AllHeld (cells l)
-cells-held [] h = tt
-cells-held (x ∷ l) h = let w = h zero (omega arith) in (omega (arith, w), (omega (arith, w), cells-held l (λ k q. h (suc k) (omega arith))))
+cells-in64 : (l : List Minislot) → ((k : ℕ) → k < length l → Low (getD l k silent)) → AllIn64 (cells l)
+cells-in64 [] h = tt
+cells-in64 (x ∷ l) h = let w = h zero (omega arith) in (omega (arith, w), (omega (arith, w), cells-in64 l (λ k q. h (suc k) (omega arith))))
 
 cells-many : (l : List Minislot) → length (cells l) ≡ 2 * length l
 cells-many [] = omega arith
@@ -99,12 +100,12 @@ module _ (stations : List Station) (wire : List WireRow) (sound : Sound stations
       subst Low (sym asked)
       (together-low (askedRequests g (suc i) (messagesOf stations)) (asked-all g (suc i) stations (sound .within)))
 
-  pub wire-line : (k m : ℕ) → Held k → m ≤ 8 → length (wireLine k m wire g) ≤ 401
+  pub wire-line : (k m : ℕ) → In64 k → m ≤ 8 → length (wireLine k m wire g) ≤ 401
   unfolding wireLine
   wire-line k m h w =
       let taken : length (take m row) ≡ m = length-take-le m row (omega (arith, sound .size .1 g gl gh)) in
-      let low : AllHeld (cells (take m row))
-      = cells-held (take m row) (λ i q. subst Low (sym (getD-take m row i silent (omega (arith, taken)))) (row-low i (omega (arith, taken)))) in
+      let low : AllIn64 (cells (take m row))
+      = cells-in64 (take m row) (λ i q. subst Low (sym (getD-take m row i silent (omega (arith, taken)))) (row-low i (omega (arith, taken)))) in
       let l = line-within (digitsOf k ∷ wireWord ∷ digitsOf g ∷ map digitsOf (cells (take m row)))
       (number-short k h, (omega arith, (number-short g (omega arith), numbers-short (cells (take m row)) low))) in
       omega (arith, l, cells-many (take m row), taken, length-map (cells (take m row)) digitsOf)

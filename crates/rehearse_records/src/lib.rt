@@ -6,14 +6,18 @@ use programs::past_first;
 use programs::place_following;
 use rehearse_calls::bare_slot;
 use rehearse_calls::calendar_record;
-use rehearse_calls::offer_record;
 use rehearse_calls::slot_record;
+use rehearse_calls::write_record;
 use rehearse_starts::start_record;
 use rehearsing::Next;
 use rehearsing::Rehearsal;
 use rehearsing::counters_of;
 use rehearsing::end_with;
 use show_lines::put_show;
+use write_fields::commit_in;
+use write_fields::hold_in;
+use write_fields::offer_in;
+use write_fields::withdrawal_in;
 ghost use mathlib.Core.Path.{_≡_};
 ghost use Rattle.rehearsing.specs.Rehearsing.{showResult, rehearseRecord};
 ghost use Rattle.rehearsing.specs.Rehearse.{reachedBy, resultBy};
@@ -59,7 +63,10 @@ pub fn rehearse_record(r: Rehearsal, bytes: &[u8], next: usize, out: &mut [u8], 
     let kind = kind_of(bytes);
     match kind {
         Kind::Slot => slot_record(r, bytes, next, out, at),
-        Kind::Offer => offer_record(r, bytes, next, out, at),
+        Kind::Offer => write_record(r, offer_in(bytes), next, out, at),
+        Kind::Hold => write_record(r, hold_in(bytes), next, out, at),
+        Kind::Commit => write_record(r, commit_in(bytes), next, out, at),
+        Kind::Withdraw => write_record(r, withdrawal_in(bytes), next, out, at),
         Kind::BareSlot => bare_slot(r, next, out, at),
         Kind::Calendar => calendar_record(r, bytes, next, out, at),
         Kind::Show => show_record(r, next, out, at),

@@ -10,17 +10,18 @@ use Rattle.number_lists.specs.declared.NumberList.{NumberList}
 use Rattle.number_lists.specs.NumberList.{listOf, lowByte}
 use Rattle.number_lists.proofs.ListLaws.{list-good}
 use Rattle.number_lists.proofs.LowBytes.{low-used}
-use Rattle.call_fields.specs.declared.OfferFields.{OfferFields}
-use Rattle.call_fields.specs.declared.OfferFields.the-variants.{Numbers, Broken}
 use Rattle.call_fields.specs.declared.StartFields.{StartFields}
+use Rattle.write_fields.specs.declared.WriteFields.{WriteFields}
+use Rattle.write_fields.specs.declared.WriteFields.the-variants.{At, Broken}
+use Rattle.rules.specs.declared.Writing.{Writing}
 use Rattle.calendar_fields.specs.declared.CalendarFields.{CalendarFields}
 use Rattle.local_channel.specs.declared.LocalCalled.{LocalCalled}
 use Rattle.local_channel.specs.declared.LocalStarted.{LocalStarted}
-use Rattle.local_channel.specs.Local.{localOfferOf, localSlotOf, localCalendarOf}
+use Rattle.local_channel.specs.Local.{localWriteOf, localSlotOf, localCalendarOf}
 use Rattle.programs.specs.Program.{Result, Ends}
 use Rattle.programs.specs.Buffering.{Reached}
 use Rattle.rehearsing.specs.declared.Rehearsal.{Rehearsal}
-use Rattle.rehearsing.specs.Rehearsing.{calledResult, startedResult, startOf, startResult, offerResult, slotResult, bareResult, calendarResult}
+use Rattle.rehearsing.specs.Rehearsing.{calledResult, startedResult, startOf, startResult, writeResult, slotResult, bareResult, calendarResult}
 use Rattle.rehearsing.specs.Rehearse.{resultBy}
 
 -- so many numbers of an array that has them
@@ -38,14 +39,14 @@ as-result r next buffer at {out} {n} e w =
     subst (λ (z : Result Rehearsal). (out ≡ resultBy r z next buffer at .buffer) × (n ≡ resultBy r z next buffer at .answer)) e w
 
 module _ (r : Rehearsal) where
-  pub offer-broken : {fields : OfferFields} → fields ≡ Broken → Ends 19 ≡ offerResult r fields
-  unfolding offerResult
-  offer-broken e = rw e
+  pub write-broken : {fields : WriteFields} → fields ≡ Broken → Ends 19 ≡ writeResult r fields
+  unfolding writeResult
+  write-broken e = rw e
 
-  pub offer-called : {fields : OfferFields} {called : LocalCalled} {index bytes : ℕ} → fields ≡ Numbers index bytes
-      → called ≡ localOfferOf (r .channel) index bytes → calledResult r called ≡ offerResult r fields
-  unfolding offerResult
-  offer-called e f = rw (e, f)
+  pub write-called : {fields : WriteFields} {called : LocalCalled} {index : ℕ} {w : Writing} → fields ≡ At index w
+      → called ≡ localWriteOf (r .channel) index w → calledResult r called ≡ writeResult r fields
+  unfolding writeResult
+  write-called e f = rw (e, f)
 
   pub slot-broken : (picks : NumberList) → (picks .number ≡ 0 → ⊥) → Ends (picks .number) ≡ slotResult r picks
   unfolding slotResult

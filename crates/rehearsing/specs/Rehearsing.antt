@@ -12,10 +12,12 @@ use Rattle.number_lists.specs.NumberList.{listOf}
 use Rattle.call_records.specs.declared.Kind.{Kind}
 use Rattle.call_records.specs.declared.Kind.the-variants as kind
 use Rattle.call_records.specs.Words.{kindOf}
-use Rattle.call_fields.specs.declared.OfferFields.{OfferFields}
-use Rattle.call_fields.specs.declared.OfferFields.the-variants.{Numbers, Broken}
 use Rattle.call_fields.specs.declared.StartFields.{StartFields}
 use Rattle.call_fields.specs.CallFields.{offerIn, startIn}
+use Rattle.which_fields.specs.WhichFields.{whichIn}
+use Rattle.write_fields.specs.declared.WriteFields.{WriteFields}
+use Rattle.write_fields.specs.declared.WriteFields.the-variants.{At, Broken}
+use Rattle.write_fields.specs.WriteFields.{newBy, heldBy}
 use Rattle.calendar_fields.specs.declared.CalendarFields.{CalendarFields}
 use Rattle.calendar_fields.specs.CalendarFields.{calendarIn}
 use Rattle.answer_lines.specs.AnswerLines.{answerLine}
@@ -25,6 +27,7 @@ use Rattle.programs.specs.Program.{Result, Goes, Ends}
 use Rattle.rules.specs.declared.Counters.{Counters}
 use Rattle.rules.specs.declared.StartAnswer.{StartAnswer}
 use Rattle.rules.specs.declared.StartAnswer.the-variants.{Ready, Refused}
+use Rattle.rules.specs.declared.Writing.the-variants.{Offer, Hold, Commit, Withdraw}
 use Rattle.rules.specs.Refusing.{byNumber}
 use Rattle.rules.specs.StationCalls.{noStation}
 use Rattle.channel_rules.specs.Soundness.{tableCounters}
@@ -32,7 +35,7 @@ use Rattle.channel_rules.specs.ChannelCalls.{blankWire}
 use Rattle.local_channel.specs.declared.LocalChannel.{LocalChannel}
 use Rattle.local_channel.specs.declared.LocalStarted.{LocalStarted}
 use Rattle.local_channel.specs.declared.LocalCalled.{LocalCalled}
-use Rattle.local_channel.specs.Local.{localStartOf, localOfferOf, localSlotOf, localCalendarOf}
+use Rattle.local_channel.specs.Local.{localStartOf, localWriteOf, localSlotOf, localCalendarOf}
 use Rattle.rehearsing.specs.declared.Rehearsal.{Rehearsal}
 
 -- a table of so many records that stand for no station, and a silent wire
@@ -69,17 +72,17 @@ startOf s = localStartOf (blankChannel (s .indexes .count)) (s .m) (s .n) (index
 unfoldable pub startResult : Rehearsal → StartFields → Result Rehearsal
 startResult r s = byNumber (s .number) Ends (startedResult r (startOf s))
 
--- ---- an offer, a slot and a calendar: the call's line, by the counters after it and the group whose slot was next before it. The number
--- ---- of a call in the list is that of its record where the start does not count
+-- ---- an offer, a hold, a commit, a withdrawal, a slot and a calendar: the call's line, by the counters after it and the group whose slot
+-- ---- was next before it. The number of a call in the list is that of its record where the start does not count
 
 abbrev pub calledResult : Rehearsal → LocalCalled → Result Rehearsal
 calledResult r called =
     let line = answerLine (r .place - 1) (countersOf (r .channel) .next) (countersOf (called .channel)) (called .answer) in
     Goes (withChannel r (called .channel)) (line ∷ [])
 
-unfoldable pub offerResult : Rehearsal → OfferFields → Result Rehearsal
-offerResult r (Numbers index bytes) = calledResult r (localOfferOf (r .channel) index bytes)
-offerResult r Broken = Ends 19
+unfoldable pub writeResult : Rehearsal → WriteFields → Result Rehearsal
+writeResult r (At index w) = calledResult r (localWriteOf (r .channel) index w)
+writeResult r Broken = Ends 19
 
 unfoldable pub slotResult : Rehearsal → NumberList → Result Rehearsal
 slotResult r picks = byNumber (picks .number) Ends (calledResult r (localSlotOf (r .channel) (take (picks .count) (picks .values))))
@@ -97,10 +100,14 @@ showResult r =
     let c = r .channel in
     Goes (withChannel r c) (showLines (r .place - 1) (countersOf c) (take (c .count) (c .stations)) (c .wire))
 
--- ---- a record after the first, by the word that it begins with; `offer,` has 6 bytes, `slot,` 5 and `calendar,` 9
+-- ---- a record after the first, by the word that it begins with; `offer,` has 6 bytes, `hold,` 5, `commit,` 7, `withdraw,` 9, `slot,` 5
+-- ---- and `calendar,` 9
 
 abbrev pub callBy : Rehearsal → List ℕ → Kind → Result Rehearsal
-callBy r bytes kind.Offer = offerResult r (offerIn (parts (drop 6 bytes)))
+callBy r bytes kind.Offer = writeResult r (newBy Offer (offerIn (parts (drop 6 bytes))))
+callBy r bytes kind.Hold = writeResult r (newBy Hold (offerIn (parts (drop 5 bytes))))
+callBy r bytes kind.Commit = writeResult r (heldBy Commit (whichIn (parts (drop 7 bytes))))
+callBy r bytes kind.Withdraw = writeResult r (heldBy Withdraw (whichIn (parts (drop 9 bytes))))
 callBy r bytes kind.Slot = slotResult r (listOf 255 (parts (drop 5 bytes)))
 callBy r bytes kind.BareSlot = bareResult r
 callBy r bytes kind.Calendar = calendarResult r (calendarIn (parts (drop 9 bytes)))

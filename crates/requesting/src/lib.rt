@@ -17,6 +17,7 @@ pub fn total_of(k: Condition) -> u8
         Condition::Resolving { total, .. } => total,
         Condition::Urgent { .. } => 1,
         Condition::Long { total, .. } => total,
+        Condition::Held { total } => total,
     }
 }
 
@@ -42,6 +43,7 @@ pub fn requests(r: u32, g: u8, k: Condition) -> bool
         },
         Condition::Urgent { .. } => false,
         Condition::Long { .. } => false,
+        Condition::Held { .. } => false,
     }
 }
 
@@ -100,5 +102,6 @@ pub fn request(r: u32, g: u8, pick: u8, k: Condition) -> Condition
         } => resolve(r, g, pick, group, place, total),
         Condition::Urgent { .. } => k,
         Condition::Long { .. } => k,
+        Condition::Held { .. } => k,
     }
 }

@@ -13,7 +13,7 @@ use Rattle.rules.proofs.Views.{eqb-self, seen, atFirst, shifted, atPlac
 use Rattle.listlaws.specs.Lists.{keepIf, onlyIf}
 use Rattle.rules.specs.Messages.{Message, of, recordOf, shortRecord}
 use Rattle.rules.specs.Plain.{askers, staysFresh, rest, pickedIn, askingRow, those, heldBack, someOf}
-use Rattle.rules.specs.StationLimits.{Condition, Free, Fresh, Asked, Resolving, Urgent, Long}
+use Rattle.rules.specs.StationLimits.{Condition, Free, Held, Fresh, Asked, Resolving, Urgent, Long}
 use borrow.Author.Tests.{eqb-true, ne-eqb}
 use lib.Dec.{eqb}
 
@@ -104,6 +104,7 @@ module _ (M : ℕ) (pick : ℕ → ℕ) (g k : ℕ) (m : Message) (lo : 1 ≤ pi
   pub asks-ok : (b : Bool) (r : List (List Message)) (f : List Message) (c : Condition) → heldIn f k ≡ b → of k f ≡ freshOf m c → ((i : ℕ) → seen (of k) r i ≡ resolvingOf g m c i) → ((i : ℕ) → askedOf g m c i ≡ [])
       → Asks M pick g k m r f (asks b (length r) g (pick (holder k)) c)
   asks-ok b [] f Free w e s a = not-fresh b f Free w e refl s a
+  asks-ok b [] f (Held t) w e s a = not-fresh b f (Held t) w e refl s a
   asks-ok true [] f (Fresh t) w e s a =
       record { fresh = of-held k f true w ∙ e; resolution = s; asking = asking-not pick k (askers [] f) M lo hi (of-asking k f true w) }
   asks-ok false [] f (Fresh t) w e s a =
@@ -117,6 +118,7 @@ module _ (M : ℕ) (pick : ℕ → ℕ) (g k : ℕ) (m : Message) (lo : 1 ≤ pi
   asks-ok b [] f (Urgent j) w e s a = not-fresh b f (Urgent j) w e refl s a
   asks-ok b [] f (Long x l t) w e s a = not-fresh b f (Long x l t) w e refl s a
   asks-ok b (x ∷ r) f Free w e s a = record { fresh = e; resolution = λ i. s (suc i); asking = asking-not pick k x M lo hi (s zero) }
+  asks-ok b (x ∷ r) f (Held t) w e s a = record { fresh = e; resolution = λ i. s (suc i); asking = asking-not pick k x M lo hi (s zero) }
   asks-ok b (x ∷ r) f (Fresh t) w e s a = record { fresh = e; resolution = λ i. s (suc i); asking = asking-not pick k x M lo hi (s zero) }
   asks-ok b (x ∷ r) f (Asked h j t) w e s a = record { fresh = e; resolution = λ i. s (suc i); asking = λ i. asking-not pick k x M lo hi (s zero) i ∙ sym (a i) }
   asks-ok b (x ∷ r) f (Resolving h j t) w e s a = go j (eqb h g) refl s

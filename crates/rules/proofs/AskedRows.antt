@@ -19,7 +19,7 @@ use Rattle.rules.specs.Messages.{Message, ofBy, of, recordOf}
 use Rattle.rules.specs.RowCounts.{shortSingles, collides}
 use Rattle.rules.specs.Queueing.{immediate}
 use Rattle.rules.specs.Plain.{Group, Plain, noneMet, loneShort, justOne, plainSuccess}
-use Rattle.rules.specs.StationLimits.{Condition, Free, Fresh, Asked, Resolving, Urgent, Long}
+use Rattle.rules.specs.StationLimits.{Condition, Free, Held, Fresh, Asked, Resolving, Urgent, Long}
 use lib.Dec.{eqb}
 use borrow.Author.Tests.{ne-eqb}
 
@@ -43,6 +43,7 @@ ofBy-map {B = B} f position k (x ∷ l) = go (ofBy-map f position k l) (eqb (pos
 -- a station's call has the station's key
 pub asked-own : (g i j k : ℕ) (c : Condition) → ofBy (λ s. s .position) k (askedSender g i j c) ≡ onlyIf (eqb j k) (askedSender g i j c)
 asked-own g i j k Free = sym (onlyIf-nil (eqb j k))
+asked-own g i j k (Held t) = sym (onlyIf-nil (eqb j k))
 asked-own g i j k (Fresh t) = sym (onlyIf-nil (eqb j k))
 asked-own g i j k (Asked h a t) = go (eqb h g) (eqb a i)
   where
@@ -76,6 +77,7 @@ module _ (ix : ℕ → ℕ) (K : ℕ) (condition : ℕ → Condition) (outside :
 -- what a station's own message shows in minislot i + 1
 pub calls : (S : Start) (p : Plain) (g k : ℕ) (m : Message) (c : Condition) → Agrees S p k m c → (i : ℕ) → map requestFrom (askedOf g m c i) ≡ askedSender g (suc i) k c
 calls S p g k m Free a i = refl
+calls S p g k m (Held t) a i = refl
 calls S p g k m (Fresh t) a i = refl
 calls S p g k m (Asked h j t) a i = go (eqb h g)
   where

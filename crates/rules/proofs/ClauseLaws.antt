@@ -14,7 +14,7 @@ use Rattle.rules.specs.declared.Places.{Places}
 use Rattle.rules.specs.Queueing.{queued, queuedRow}
 use Rattle.rules.specs.Turns.{Turn, UrgentTurn, LongTurn, ResolveTurn, OpenTurn, turnOf}
 use Rattle.rules.specs.Falling.{urgentFalls, longFalls}
-use Rattle.rules.specs.StationLimits.{Condition, Free, Fresh, Asked, Resolving, Urgent, Long}
+use Rattle.rules.specs.StationLimits.{Condition, Free, Held, Fresh, Asked, Resolving, Urgent, Long}
 use Rattle.rules.specs.Requesting.{requests, requested}
 use Rattle.rules.specs.Serving.{sends, moved}
 use Rattle.rules.proofs.Clauses.{after, settle, front, asks, lower, shorter, falls, heeded, sendsBy, sendsIn, less, hLeft, nLeft}
@@ -24,6 +24,7 @@ use Rattle.rules.proofs.Settled.{standsAfter, settledBy}
 -- a place, a minislot and a stretch count from 1, and a stretch has no more left than its total
 abbrev pub Placed : Condition → Type 0
 Placed Free = Unit {0}
+Placed (Held t) = Unit {0}
 Placed (Fresh t) = Unit {0}
 Placed (Asked g j t) = 1 ≤ j
 Placed (Resolving g i t) = 1 ≤ i
@@ -45,6 +46,7 @@ after-is b g (f ∷ row) p (suc j) t = after-is b g row (queued b p f) j t
 pub settle-is : (b : Bool) (g : ℕ) (p : Places) (row : List Feedback) (c : Condition) → Placed c → settledBy b g p row c ≡ settle b g row p c
 unfolding settledBy
 settle-is b g p row Free w = refl
+settle-is b g p row (Held t) w = refl
 settle-is b g p row (Fresh t) w = refl
 settle-is b g p row (Asked h zero t) w = absurd (omega arith)
 settle-is b g p row (Asked h (suc j) t) w =
@@ -101,12 +103,14 @@ front-is true g pick h (suc (suc i)) t w = rw (past-one i) (ap (λ (x : ℕ). Re
 pub asks-is : (r g pick : ℕ) (c : Condition) → Placed c → requested r g pick c ≡ asks false r g pick c
 unfolding requested
 asks-is zero g pick Free w = refl
+asks-is zero g pick (Held t) w = refl
 asks-is zero g pick (Fresh t) w = refl
 asks-is zero g pick (Asked h i t) w = refl
 asks-is zero g pick (Resolving h i t) w = refl
 asks-is zero g pick (Urgent i) w = refl
 asks-is zero g pick (Long f l t) w = refl
 asks-is (suc r) g pick Free w = refl
+asks-is (suc r) g pick (Held t) w = refl
 asks-is (suc r) g pick (Fresh t) w = rw (not-none r)
 asks-is (suc r) g pick (Asked h i t) w = refl
 asks-is (suc r) g pick (Resolving h i t) w = rw (some-places r) (front-is (eqb h g) g pick h i t w)
@@ -122,6 +126,7 @@ sends-is none g h n r c w = go h n r c w
   where
     open-is : (c : Condition) → sends OpenTurn 0 g c ≡ sendsBy 0 0 0 c
     open-is Free = refl
+    open-is (Held t) = refl
     open-is (Fresh t) = refl
     open-is (Asked x j t) = refl
     open-is (Resolving x i t) = refl
@@ -130,6 +135,7 @@ sends-is none g h n r c w = go h n r c w
 
     resolve-is : (r : ℕ) (c : Condition) → 0 ≡ sendsBy 0 0 (suc r) c
     resolve-is r Free = refl
+    resolve-is r (Held t) = refl
     resolve-is r (Fresh t) = refl
     resolve-is r (Asked x j t) = refl
     resolve-is r (Resolving x i t) = refl
@@ -138,6 +144,7 @@ sends-is none g h n r c w = go h n r c w
 
     long-is : (n r : ℕ) (c : Condition) → Placed c → sends LongTurn r g c ≡ sendsBy 0 (suc n) r c
     long-is n r Free w = refl
+    long-is n r (Held t) w = refl
     long-is n r (Fresh t) w = refl
     long-is n r (Asked x j t) w = refl
     long-is n r (Resolving x i t) w = refl
@@ -146,6 +153,7 @@ sends-is none g h n r c w = go h n r c w
 
     urgent-is : (h n r : ℕ) (c : Condition) → sends UrgentTurn r g c ≡ sendsBy (suc h) n r c
     urgent-is h n r Free = refl
+    urgent-is h n r (Held t) = refl
     urgent-is h n r (Fresh t) = refl
     urgent-is h n r (Asked x j t) = refl
     urgent-is h n r (Resolving x i t) = refl
@@ -180,6 +188,7 @@ falls-is none h n r c w =
   where
     urgent-is : (h n : ℕ) (c : Condition) → Placed c → moved UrgentTurn c ≡ falls (suc h) n c
     urgent-is h n Free w = refl
+    urgent-is h n (Held t) w = refl
     urgent-is h n (Fresh t) w = refl
     urgent-is h n (Asked x j t) w = refl
     urgent-is h n (Resolving x i t) w = refl
@@ -188,6 +197,7 @@ falls-is none h n r c w =
 
     long-is : (n : ℕ) (c : Condition) → Placed c → moved LongTurn c ≡ falls 0 (suc n) c
     long-is n Free w = refl
+    long-is n (Held t) w = refl
     long-is n (Fresh t) w = refl
     long-is n (Asked x j t) w = refl
     long-is n (Resolving x i t) w = refl

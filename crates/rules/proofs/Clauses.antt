@@ -11,7 +11,7 @@ use Rattle.rules.specs.declared.Places.{Places}
 use Rattle.listlaws.specs.Lists.{onlyIf}
 use Rattle.rules.specs.Messages.{Message}
 use Rattle.rules.specs.Queueing.{queued}
-use Rattle.rules.specs.StationLimits.{Condition, Free, Fresh, Asked, Resolving, Urgent, Long}
+use Rattle.rules.specs.StationLimits.{Condition, Free, Held, Fresh, Asked, Resolving, Urgent, Long}
 use Rattle.rules.proofs.Views.{Sender, senderAt, requestFrom}
 use Rattle.rules.proofs.Settled.{standsAfter}
 
@@ -44,6 +44,7 @@ after b g (f ∷ row) c (suc (suc j)) t = after b g row (queued b c f) (suc j) t
 -- step 1 for any condition
 abbrev pub settle : Bool → ℕ → List Feedback → Places → Condition → Condition
 settle b g row c Free = Free
+settle b g row c (Held t) = Held t
 settle b g row c (Fresh t) = Fresh t
 settle b g row c (Asked h j t) = cond (eqb h g) (after b g row c j t) (Asked h j t)
 settle b g row c (Resolving h i t) = Resolving h i t
@@ -64,12 +65,14 @@ freshAsks false g j t = Asked g j t
 
 abbrev pub asks : Bool → ℕ → ℕ → ℕ → Condition → Condition
 asks b zero g j Free = Free
+asks b zero g j (Held t) = Held t
 asks b zero g j (Fresh t) = freshAsks b g j t
 asks b zero g j (Asked h i t) = Asked h i t
 asks b zero g j (Resolving h i t) = Resolving h i t
 asks b zero g j (Urgent i) = Urgent i
 asks b zero g j (Long f l t) = Long f l t
 asks b (suc r) g j Free = Free
+asks b (suc r) g j (Held t) = Held t
 asks b (suc r) g j (Fresh t) = Fresh t
 asks b (suc r) g j (Asked h i t) = Asked h i t
 asks b (suc r) g j (Resolving h i t) = front (eqb h g) g j h i t
@@ -95,6 +98,7 @@ shorter (suc (suc f)) l t = Long (suc f) l t
 
 abbrev pub falls : ℕ → ℕ → Condition → Condition
 falls h n Free = Free
+falls h n (Held t) = Held t
 falls h n (Fresh t) = Fresh t
 falls h n (Asked g j t) = Asked g j t
 falls h n (Resolving g i t) = Resolving g i t
@@ -107,6 +111,7 @@ falls (suc h) n (Long f l t) = Long f l t
 -- step 4: the segment that a station sends, 0 for none; the slots that the queues deliver
 abbrev pub sendsBy : ℕ → ℕ → ℕ → Condition → ℕ
 sendsBy h n r Free = 0
+sendsBy h n r (Held t) = 0
 sendsBy zero zero zero (Fresh t) = cond (eqb t 1) 1 0
 sendsBy zero zero (suc r) (Fresh t) = 0
 sendsBy zero (suc n) r (Fresh t) = 0
@@ -152,6 +157,7 @@ ownedOr none f d = d
 -- after step 1
 abbrev pub requestSender : Bool → ℕ → ℕ → ℕ → ℕ → ℕ → Condition → List Sender
 requestSender b r g pick j k Free = []
+requestSender b r g pick j k (Held t) = []
 requestSender b zero g pick j k (Fresh t) = onlyIf (not b) (onlyIf (eqb pick j) (senderAt k t ∷ []))
 requestSender b (suc r) g pick j k (Fresh t) = []
 requestSender b r g pick j k (Asked h i t) = []

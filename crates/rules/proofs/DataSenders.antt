@@ -21,7 +21,7 @@ use Rattle.rules.specs.Plain.{sent, oneSlot, askers}
 use Rattle.rules.proofs.AskViews.{heldIn, of-asking}
 use Rattle.rules.proofs.Records.{isLongRecord, kind-of}
 use Rattle.rules.specs.Positions.{one, part}
-use Rattle.rules.specs.StationLimits.{Condition, Free, Fresh, Asked, Resolving, Urgent, Long}
+use Rattle.rules.specs.StationLimits.{Condition, Free, Held, Fresh, Asked, Resolving, Urgent, Long}
 use borrow.Author.Tests.{eqb-true, ne-eqb}
 use lib.Dec.{eqb}
 
@@ -57,6 +57,7 @@ oneSlot-data k (x ∷ l) = go (oneSlot-data k l) (eqb (x .slots) 1) refl (eqb (r
 module _ (S : Start) (k : ℕ) (m : Message) where
   urgent-send : (h n r : ℕ) (c : Condition) → map (λ (y : Message). senderAt k 1) (urgentOf m c zero) ≡ senderIf k (sendsBy (suc h) n r c)
   urgent-send h n r Free = refl
+  urgent-send h n r (Held t) = refl
   urgent-send h n r (Fresh t) = refl
   urgent-send h n r (Asked g j t) = refl
   urgent-send h n r (Resolving g i t) = refl
@@ -67,6 +68,7 @@ module _ (S : Start) (k : ℕ) (m : Message) where
 
   long-send : (n r : ℕ) (c : Condition) → Fits S m c → map (λ (y : Segment). senderAt k (y .number)) (longOf m c zero) ≡ senderIf k (sendsBy zero (suc n) r c)
   long-send n r Free w = refl
+  long-send n r (Held t) w = refl
   long-send n r (Fresh t) w = refl
   long-send n r (Asked g j t) w = refl
   long-send n r (Resolving g i t) w = refl
@@ -78,6 +80,7 @@ module _ (S : Start) (k : ℕ) (m : Message) where
 
   rest-send : (r : ℕ) (c : Condition) → [] ≡ senderIf k (sendsBy zero zero (suc r) c)
   rest-send r Free = refl
+  rest-send r (Held t) = refl
   rest-send r (Fresh t) = refl
   rest-send r (Asked g j t) = refl
   rest-send r (Resolving g i t) = refl
@@ -86,6 +89,7 @@ module _ (S : Start) (k : ℕ) (m : Message) where
 
   open-send : (c : Condition) → Fits S m c → map (λ (y : Message). senderAt k 1) (oneSlot (freshOf m c)) ≡ senderIf k (sendsBy zero zero zero c)
   open-send Free w = refl
+  open-send (Held t) w = refl
   open-send (Fresh t) w = rw w (go (eqb (m .slots) 1))
     where
       go : (b : Bool) → map (λ (y : Message). senderAt k 1) (keepIf b m []) ≡ senderIf k (cond b 1 0)
@@ -106,6 +110,7 @@ module _ (S : Start) (k : ℕ) (m : Message) where
 
   none-of-one : eqb (m .slots) 1 ≡ false → (c : Condition) → oneSlot (freshOf m c) ≡ []
   none-of-one e Free = refl
+  none-of-one e (Held t) = refl
   none-of-one e (Fresh t) = rw e
   none-of-one e (Asked g j t) = refl
   none-of-one e (Resolving g i t) = refl

@@ -12,11 +12,12 @@ use Rattle.rules.proofs.Views.{seen, run}
 use Rattle.rules.specs.Messages.{Message, Segment}
 use Rattle.rules.specs.Plain.{rest, urgentLeft, longLeft}
 use Rattle.rules.specs.Positions.{one, part}
-use Rattle.rules.specs.StationLimits.{Condition, Free, Fresh, Asked, Resolving, Urgent, Long}
+use Rattle.rules.specs.StationLimits.{Condition, Free, Held, Fresh, Asked, Resolving, Urgent, Long}
 
 -- the stretch is no longer than its message
 abbrev pub Left : Condition → Type 0
 Left Free = Unit {0}
+Left (Held t) = Unit {0}
 Left (Fresh t) = Unit {0}
 Left (Asked g j t) = Unit {0}
 Left (Resolving g i t) = Unit {0}
@@ -31,6 +32,7 @@ pub record Falls (k : ℕ) (m : Message) (o : Option ℕ) (u : List Message) (l 
 -- where neither queue is served, every condition stays
 pub falls-still : (c : Condition) → falls 0 0 c ≡ c
 falls-still Free = refl
+falls-still (Held t) = refl
 falls-still (Fresh t) = refl
 falls-still (Asked g j t) = refl
 falls-still (Resolving g i t) = refl
@@ -50,6 +52,7 @@ module _ (k : ℕ) (m : Message) where
       → Falls k m o u l (falls (heeded o (length u)) (heeded o (length l)) c)
   falls-ok (some x) u l c w a b = subst (Falls k m (some x) u l) (sym (falls-still c)) (record { urgent = a; long = b })
   falls-ok none u l Free w a b = record { urgent = rest-none (one k) u a; long = left-none k u l b }
+  falls-ok none u l (Held t) w a b = record { urgent = rest-none (one k) u a; long = left-none k u l b }
   falls-ok none u l (Fresh t) w a b = record { urgent = rest-none (one k) u a; long = left-none k u l b }
   falls-ok none u l (Asked g j t) w a b = record { urgent = rest-none (one k) u a; long = left-none k u l b }
   falls-ok none u l (Resolving g i t) w a b = record { urgent = rest-none (one k) u a; long = left-none k u l b }

@@ -22,6 +22,8 @@ pub mod AskedRows
 pub mod DataSenders
 pub mod RecordKinds
 pub mod SlotStep
+pub mod Ledger
+pub mod WriteStep
 pub mod CallStep
 pub mod ClauseLaws
 pub mod WireRows

@@ -8,18 +8,19 @@ use Rattle.rules.specs.declared.Started.{Started}
 use Rattle.rules.specs.declared.Listened.{Listened}
 use Rattle.rules.specs.declared.Station.{Station}
 use Rattle.rules.specs.declared.StationStarted.{StationStarted}
-use Rattle.rules.specs.declared.StationOffered.{StationOffered}
+use Rattle.rules.specs.declared.StationWritten.{StationWritten}
 use Rattle.rules.specs.declared.StationSlot.{StationSlot}
 use Rattle.rules.specs.Starting.{refusedListener, startNumberOf, startOf}
 use Rattle.rules.specs.Listening.{refusedListening, listened, listenNumberOf, listeningOf}
 use Rattle.rules.specs.Stepping.{stepOf}
-use Rattle.rules.specs.StationCalls.{refusedStart, stationStartNumberOf, stationStartOf, refusedOffer, offerNumberOf, offerOf, refusedSlot, slotNumberOf, slotOf}
+use Rattle.rules.specs.StationCalls.{refusedStart, stationStartNumberOf, stationStartOf, refusedSlot, slotNumberOf, slotOf}
+use Rattle.rules.specs.Writing.{Writing, refusedWrite, writeNumberOf, writeOf}
 use Rattle.rules.specs.declared.CalendarSet.{CalendarSet}
 use Rattle.rules.specs.declared.StationSet.{StationSet}
 use Rattle.rules.specs.Settings.{refusedCalendar, calendarNumberOf, calendarOf, refusedSetting, stationCalendarNumberOf, stationCalendarOf}
 use Rattle.rules.specs.Recorded.{stretch, listeningAtOf, slotAtOf}
-use Rattle.rules.specs.Numbers.{startTold, listenTold, offerTold, slotTold, calendarTold}
-use Rattle.rules.specs.Answered.{startToldOf, listenToldOf, stationStartToldOf, offerToldOf, slotToldOf, listenAtToldOf, slotAtToldOf, calendarToldOf, stationCalendarToldOf}
+use Rattle.rules.specs.Numbers.{startTold, listenTold, writeTold, slotTold, calendarTold}
+use Rattle.rules.specs.Answered.{startToldOf, listenToldOf, stationStartToldOf, writeToldOf, slotToldOf, listenAtToldOf, slotAtToldOf, calendarToldOf, stationCalendarToldOf}
 use Rattle.rules.proofs.Refusals.{by-ap}
 
 -- ---- STARTING
@@ -42,11 +43,11 @@ pub listen-at-told : (c : Counters) (start : ℕ) (words counts : List ℕ) → 
 unfolding listeningAtOf listenAtToldOf
 listen-at-told c start words counts = listen-told c (stretch (c .minislots) start words) (stretch (c .minislots) start counts)
 
--- ---- A STATION'S OFFER AND SLOT, and a slot on a stretch of a recording
+-- ---- A STATION'S WRITING AND SLOT, and a slot on a stretch of a recording
 
-pub offer-told : (s : Station) (bytes : ℕ) → offerTold (offerOf s bytes .answer) ≡ offerToldOf s bytes
-unfolding offerOf offerToldOf
-offer-told s bytes = by-ap (λ (r : StationOffered). offerTold (r .answer)) (offerNumberOf s bytes) (refusedOffer s) _
+pub write-told : (s : Station) (w : Writing) → writeTold (writeOf s w .answer) ≡ writeToldOf s w
+unfolding writeOf writeToldOf
+write-told s w = by-ap (λ (r : StationWritten). writeTold (r .answer)) (writeNumberOf s w) (refusedWrite s) _
 
 pub slot-told : (s : Station) (words counts : List ℕ) (pick : ℕ) → slotTold (slotOf s words counts pick .answer) ≡ slotToldOf s words counts pick
 unfolding slotOf slotToldOf stepOf

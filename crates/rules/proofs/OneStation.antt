@@ -5,26 +5,27 @@ use mathlib.Core.List.{List, [], _++_, map, append-assoc}
 use Prim.Native.Nat.{ℕ, zero, _+_, _-_, _≤_}
 use lib.ListN.{length}
 use Rattle.rules.proofs.Newcomers.{ofBy-append}
-use Rattle.rules.proofs.SettleViews.{settle-ok, settle-asked, settle-fresh, settle-asked-far, settle-res-far}
+use Rattle.rules.proofs.SettleViews.{settle-ok, settle-asked, settle-fresh, settle-held, settle-asked-far, settle-res-far}
 use Rattle.rules.proofs.Records.{holder}
 use Rattle.rules.proofs.AskViews.{Asks, heldIn, asks-ok}
 use Rattle.rules.proofs.FallViews.{Left, Falls, falls-ok}
 use Rattle.rules.proofs.ServeViews.{asks-view, falls-view, asks-fits, falls-fits, serve-told}
 use Rattle.minislot.specs.declared.Feedback.{Feedback}
 use Rattle.rules.proofs.Clauses.{read, settle, asks, falls, heeded}
-use Rattle.rules.proofs.Relation.{lengths, Shows, Agrees, Fits, remaining, whole, freshOf, askedOf, resolvingOf, urgentOf, longOf}
+use Rattle.rules.proofs.Relation.{lengths, Shows, Agrees, Fits, remaining, whole, heldOf, freshOf, askedOf, resolvingOf, urgentOf, longOf}
 use Rattle.rules.proofs.Views.{seen}
 use Rattle.rules.specs.Calls.{Start}
 use Rattle.rules.proofs.Shared.{indexOf}
 use Rattle.rules.specs.Messages.{Message, Segment, of, deliveredOf, recordOf}
 use Rattle.rules.specs.Plain.{Queues, Plain, queuesOf, plainSuccess, plainSettled, plainOwner, renewed, plainWent, served}
-use Rattle.rules.specs.StationLimits.{Condition, Free, Fresh, Asked, Resolving, Urgent, Long}
+use Rattle.rules.specs.StationLimits.{Condition, Free, Held, Fresh, Asked, Resolving, Urgent, Long}
 use Rattle.rules.specs.declared.Places.{Places}
 use borrow.Author.Tests.{eqb-true, ne-eqb, eqb-false}
 use lib.Dec.{eqb}
 
 fits-left : (S : Start) (m : Message) (c : Condition) → Fits S m c → Left c
 fits-left S m Free f = tt
+fits-left S m (Held t) f = tt
 fits-left S m (Fresh t) f = tt
 fits-left S m (Asked g j t) f = tt
 fits-left S m (Resolving g i t) f = tt
@@ -47,15 +48,19 @@ module _ (S : Start) (pick : ℕ → ℕ) (p : Plain) (k : ℕ) (m : Message) (g
       (record { urgent = a .urgent; long = a .long; resolution = a .resolution (p .next); owed = a .owed; fits = a .fits })
 
   module _ (c : Condition) (a : Agrees S p k m c) where
-    slot-ok : (q : Queues) (c₁ : Condition) → Shows S (p .next) k m (whole (of k (p .taken))) q c₁ → of k (p .fresh) ≡ freshOf m c₁ → ((i : ℕ) → askedOf (p .next) m c₁ i ≡ [])
+    slot-ok : (q : Queues) (c₁ : Condition) → Shows S (p .next) k m (whole (of k (p .taken))) q c₁ → heldOf m c₁ ≡ heldOf m c → of k (p .fresh) ≡ freshOf m c₁ → ((i : ℕ) → askedOf (p .next) m c₁ i ≡ [])
         → ((g : ℕ) → eqb g (p .next) ≡ false → (i : ℕ) → askedOf g m c₁ i ≡ askedOf g m c i)
         → ((g : ℕ) → eqb g (p .next) ≡ false → (i : ℕ) → resolvingOf g m c₁ i ≡ resolvingOf g m c i)
         → Agrees S (plainWent S pick p q) k m (later pick p k q c₁)
-    slot-ok q c₁ s f n fa fr =
+    slot-ok q c₁ s d f n fa fr =
         record {
           mine = a .mine;
           some = a .some;
           few = a .few;
+          held =
+              a .held ∙ sym d
+              ∙ sym (asks-view (p .next) (pick (holder k)) (heldOf m) (λ t. refl) (λ h t e. refl) (λ h x t e. refl) (heldIn (p .fresh) k) (length (q .resolution)) c₁)
+              ∙ sym (falls-view (heldOf m) (λ i. refl) (λ x l t. refl) h₂ n₂ c₂);
           fresh = A.fresh ∙ sym (falls-view (freshOf m) (λ i. refl) (λ x l t. refl) h₂ n₂ c₂);
           urgent = F.urgent;
           long = F.long;
@@ -121,7 +126,7 @@ module _ (S : Start) (pick : ℕ → ℕ) (p : Plain) (k : ℕ) (m : Message) (g
     -- one slot, this record
     pub station-ok : Agrees S (plainWent S pick p (plainSettled p)) k m (later pick p k (plainSettled p) (first S p c))
     station-ok =
-        slot-ok (plainSettled p) (first S p c) (first-ok c a) (a .fresh ∙ sym (settle-fresh b₀ (p .next) row₀ n₀ m c)) (settle-asked b₀ (p .next) row₀ n₀ m c)
+        slot-ok (plainSettled p) (first S p c) (first-ok c a) (settle-held b₀ (p .next) row₀ n₀ m c) (a .fresh ∙ sym (settle-fresh b₀ (p .next) row₀ n₀ m c)) (settle-asked b₀ (p .next) row₀ n₀ m c)
         (λ g e. settle-asked-far b₀ (p .next) row₀ n₀ m g e c)
         (λ g e. settle-res-far b₀ (p .next) row₀ n₀ m g e c)
       where

@@ -18,7 +18,7 @@ use Rattle.requests.specs.Together.{together}
 use Rattle.listlaws.specs.Lists.{keepIf, onlyIf}
 use Rattle.rules.specs.Messages.{ofBy, shortRecord, longRecord}
 use Rattle.rules.specs.Hearing.{wordsOf}
-use Rattle.rules.specs.StationLimits.{Condition, Free, Fresh, Asked, Resolving, Urgent, Long, recordsApart}
+use Rattle.rules.specs.StationLimits.{Condition, Free, Held, Fresh, Asked, Resolving, Urgent, Long, recordsApart}
 use Rattle.rules.specs.OwnHearing.{ownMinislot, ownTotal, hearsHere, hearsElsewhere, hearsAt, hearsFrom}
 use Rattle.rules.proofs.Views.{Sender, senderAt, eqb-self}
 use Rattle.rules.proofs.Clauses.{hearing}
@@ -52,6 +52,7 @@ part-of ix k x (y ∷ l) e = go (eqb (y .position) k) refl e (part-of ix k x l)
 
 own-mine : (g j r : ℕ) (c : Condition) → 1 ≤ j → eqb j (ownMinislot g c) ≡ true → askedSender g j r c ≡ senderAt r (ownTotal c) ∷ []
 own-mine g j r Free lo w = let z : j ≡ 0 = eqb-true j 0 w in absurd (omega arith)
+own-mine g j r (Held t) lo w = let z : j ≡ 0 = eqb-true j 0 w in absurd (omega arith)
 own-mine g j r (Fresh t) lo w = let z : j ≡ 0 = eqb-true j 0 w in absurd (omega arith)
 own-mine g j r (Asked h i t) lo w = at (eqb h g) w
   where
@@ -64,6 +65,7 @@ own-mine g j r (Long f l t) lo w = let z : j ≡ 0 = eqb-true j 0 w in absurd (o
 
 own-other : (g j r : ℕ) (c : Condition) → eqb j (ownMinislot g c) ≡ false → askedSender g j r c ≡ []
 own-other g j r Free w = refl
+own-other g j r (Held t) w = refl
 own-other g j r (Fresh t) w = refl
 own-other g j r (Asked h i t) w = at (eqb h g) w
   where
@@ -77,6 +79,7 @@ own-other g j r (Long f l t) w = refl
 -- a record that listens is asked in the group, and one that is not asked there sends nothing there
 own-asks : (g : ℕ) (c : Condition) → eqb (ownMinislot g c) 0 ≡ false → asksIn g c ≡ true
 own-asks g Free w = sym w
+own-asks g (Held t) w = sym w
 own-asks g (Fresh t) w = sym w
 own-asks g (Asked h i t) w = at (eqb h g) w
   where
@@ -89,6 +92,7 @@ own-asks g (Long f l t) w = sym w
 
 not-asked : (g j r : ℕ) (c : Condition) → (asksIn g c ≡ true → ⊥) → askedSender g j r c ≡ []
 not-asked g j r Free n = refl
+not-asked g j r (Held t) n = refl
 not-asked g j r (Fresh t) n = refl
 not-asked g j r (Asked h i t) n = at (eqb h g) n
   where

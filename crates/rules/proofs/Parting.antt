@@ -12,7 +12,7 @@ use Rattle.minislot.specs.declared.Feedback.{Feedback}
 use Rattle.minislot.specs.declared.Feedback.the-variants.{Empty, Single, Collide}
 use Rattle.rules.specs.declared.Places.{Places}
 use Rattle.rules.specs.Queueing.{queued}
-use Rattle.rules.specs.StationLimits.{Condition, Free, Fresh, Asked, Resolving, Urgent, Long, notAsked, notAt, recordsApart}
+use Rattle.rules.specs.StationLimits.{Condition, Free, Held, Fresh, Asked, Resolving, Urgent, Long, notAsked, notAt, recordsApart}
 use Rattle.rules.specs.Stepping.{isFresh}
 use Rattle.rules.proofs.Clauses.{after, settle, asks, front, falls}
 use Rattle.rules.proofs.QueueingLaws.{queued-grows}
@@ -24,6 +24,7 @@ use Rattle.rules.proofs.Views.{eqb-self}
 -- asked in group g; at place i of group g's resolution queue
 abbrev pub asksIn : ℕ → Condition → Bool
 asksIn g Free = false
+asksIn g (Held t) = false
 asksIn g (Fresh t) = false
 asksIn g (Asked h j t) = eqb h g
 asksIn g (Resolving h i t) = false
@@ -32,6 +33,7 @@ asksIn g (Long f l t) = false
 
 abbrev pub standsIn : ℕ → ℕ → Condition → Bool
 standsIn g i Free = false
+standsIn g i (Held t) = false
 standsIn g i (Fresh t) = false
 standsIn g i (Asked h j t) = false
 standsIn g i (Resolving h j t) = eqb h g && eqb j i
@@ -58,6 +60,7 @@ and-parts false b e = absurd (no-true e)
 
 asked-not : (g : ℕ) (b : Condition) → notAsked g b ≡ not (asksIn g b)
 asked-not g Free = refl
+asked-not g (Held t) = refl
 asked-not g (Fresh t) = refl
 asked-not g (Asked h j t) = refl
 asked-not g (Resolving h i t) = refl
@@ -66,6 +69,7 @@ asked-not g (Long f l t) = refl
 
 at-not : (g i : ℕ) (b : Condition) → notAt g i b ≡ not (standsIn g i b)
 at-not g i Free = refl
+at-not g i (Held t) = refl
 at-not g i (Fresh t) = refl
 at-not g i (Asked h j t) = refl
 at-not g i (Resolving h j t) = refl
@@ -75,6 +79,7 @@ at-not g i (Long f l t) = refl
 pub apart-parted : (a b : Condition) → recordsApart a b ≡ true → Parted a b
 unfolding recordsApart
 apart-parted Free b e = record { asked = λ g p q. no-true p; place = λ g i p q. no-true p }
+apart-parted (Held t) b e = record { asked = λ g p q. no-true p; place = λ g i p q. no-true p }
 apart-parted (Fresh t) b e = record { asked = λ g p q. no-true p; place = λ g i p q. no-true p }
 apart-parted (Asked h j t) b e =
     record { asked = λ g p q. not-both (asksIn h b) (sym (asked-not h b) ∙ e) (ap (λ (x : ℕ). asksIn x b) (eqb-true h g p) ∙ q); place = λ g i p q. no-true p }
@@ -95,6 +100,7 @@ refute false h = refl
 pub parted-apart : (a b : Condition) → Parted a b → recordsApart a b ≡ true
 unfolding recordsApart
 parted-apart Free b p = refl
+parted-apart (Held t) b p = refl
 parted-apart (Fresh t) b p = refl
 parted-apart (Asked h j t) b p = asked-not h b ∙ refute (asksIn h b) (p .asked h (eqb-self h))
 parted-apart (Resolving h j t) b p = at-not h j b ∙ refute (standsIn h j b) (p .place h j (rw (eqb-self h, eqb-self j)))
@@ -130,6 +136,7 @@ module _ (b : Bool) (g : ℕ) where
   module _ (row : List Feedback) (n : Places) where
     pub settle-asks : (c : Condition) → asksIn g (settle b g row n c) ≡ false
     settle-asks Free = refl
+    settle-asks (Held t) = refl
     settle-asks (Fresh t) = refl
     settle-asks (Asked h j t) = go (eqb h g) refl
       where
@@ -143,6 +150,7 @@ module _ (b : Bool) (g : ℕ) where
     -- asked in another group, it was; at a place, it was, or it was asked in this group and stands behind all that were there
     settle-asked : (o : ℕ) (c : Condition) → asksIn o (settle b g row n c) ≡ true → asksIn o c ≡ true
     settle-asked o Free e = e
+    settle-asked o (Held t) e = e
     settle-asked o (Fresh t) e = e
     settle-asked o (Asked h j t) e = go (eqb h g) e
       where
@@ -155,6 +163,7 @@ module _ (b : Bool) (g : ℕ) where
 
     settle-stands : (o i : ℕ) (c : Condition) → standsIn o i (settle b g row n c) ≡ true → (standsIn o i c ≡ true) ⊎ ((asksIn g c ≡ true) × (n .resolution < i) × (eqb g o ≡ true))
     settle-stands o i Free e = inl e
+    settle-stands o i (Held t) e = inl e
     settle-stands o i (Fresh t) e = inl e
     settle-stands o i (Asked h j t) e = go (eqb h g) refl e
       where
@@ -201,6 +210,7 @@ module _ (g j : ℕ) where
   asks-asked : (b : Bool) (r : ℕ) (c : Condition) → asksIn g c ≡ false → asksIn g (asks b r g j c) ≡ true
       → ((r ≡ 0) × (isFresh c ≡ true) × (b ≡ false)) ⊎ ((1 ≤ r) × (standsIn g 1 c ≡ true))
   asks-asked b zero Free n e = absurd (no-true e)
+  asks-asked b zero (Held t) n e = absurd (no-true e)
   asks-asked true zero (Fresh t) n e = absurd (no-true e)
   asks-asked false zero (Fresh t) n e = inl (refl, refl, refl)
   asks-asked b zero (Asked h i t) n e = absurd (no-true (sym n ∙ e))
@@ -208,6 +218,7 @@ module _ (g j : ℕ) where
   asks-asked b zero (Urgent i) n e = absurd (no-true e)
   asks-asked b zero (Long f l t) n e = absurd (no-true e)
   asks-asked b (suc r) Free n e = absurd (no-true e)
+  asks-asked b (suc r) (Held t) n e = absurd (no-true e)
   asks-asked b (suc r) (Fresh t) n e = absurd (no-true e)
   asks-asked b (suc r) (Asked h i t) n e = absurd (no-true (sym n ∙ e))
   asks-asked b (suc r) (Resolving h i t) n e = go (eqb h g) i e
@@ -222,6 +233,7 @@ module _ (g j : ℕ) where
 
   asks-stands : (b : Bool) (r : ℕ) (c : Condition) (i : ℕ) → standsIn g i (asks b r g j c) ≡ true → standsIn g (above r i) c ≡ true
   asks-stands b zero Free i e = e
+  asks-stands b zero (Held t) i e = e
   asks-stands true zero (Fresh t) i e = e
   asks-stands false zero (Fresh t) i e = e
   asks-stands b zero (Asked h k t) i e = e
@@ -229,6 +241,7 @@ module _ (g j : ℕ) where
   asks-stands b zero (Urgent k) i e = e
   asks-stands b zero (Long f l t) i e = e
   asks-stands b (suc r) Free i e = absurd (no-true e)
+  asks-stands b (suc r) (Held t) i e = absurd (no-true e)
   asks-stands b (suc r) (Fresh t) i e = absurd (no-true e)
   asks-stands b (suc r) (Asked h k t) i e = absurd (no-true e)
   asks-stands b (suc r) (Resolving h k t) i e = go (eqb h g) refl k i e
@@ -290,6 +303,7 @@ falls-parted h n x y p =
 
 pub fresh-settled : (b : Bool) (g : ℕ) (row : List Feedback) (n : Places) (c : Condition) → isFresh (settle b g row n c) ≡ isFresh c
 fresh-settled b g row n Free = refl
+fresh-settled b g row n (Held t) = refl
 fresh-settled b g row n (Fresh t) = refl
 fresh-settled b g row n (Asked h j t) = go (eqb h g)
   where

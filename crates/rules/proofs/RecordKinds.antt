@@ -13,7 +13,7 @@ use Rattle.listlaws.specs.Lists.{onlyIf}
 use Rattle.rules.specs.Calls.{Start}
 use Rattle.rules.specs.Messages.{Message, shortRecord, longRecord, recordOf}
 use Rattle.rules.specs.Requesting.{requests}
-use Rattle.rules.specs.StationLimits.{Condition, Free, Fresh, Asked, Resolving, Urgent, Long, shortWithin, longWithin}
+use Rattle.rules.specs.StationLimits.{Condition, Free, Held, Fresh, Asked, Resolving, Urgent, Long, shortWithin, longWithin}
 use Rattle.rules.specs.Stepping.{isFresh}
 use Rattle.rules.proofs.Clauses.{sendsBy, sendsIn, requestSender}
 use Rattle.rules.proofs.Parting.{no-true, standsIn, Parted}
@@ -40,6 +40,7 @@ more-slots m k e = go (eqb (m .slots) 1) refl (sym (kind-of m) ∙ ap isLongReco
 pub fits-short : (S : Start) (m : Message) (k : ℕ) (c : Condition) → recordOf m ≡ shortRecord k → Fits S m c → shortWithin c ≡ true
 unfolding shortWithin
 fits-short S m k Free e f = refl
+fits-short S m k (Held t) e f = eq-eqb t 1 (f ∙ one-slot m k e)
 fits-short S m k (Fresh t) e f = eq-eqb t 1 (f ∙ one-slot m k e)
 fits-short S m k (Asked g j t) e f = eq-eqb t 1 (f .0 ∙ one-slot m k e)
 fits-short S m k (Resolving g i t) e f = eq-eqb t 1 (f .0 ∙ one-slot m k e)
@@ -52,6 +53,7 @@ more-than S m k t e lo q = let w : m .slots ≢ 1 = more-slots m k e in lt-ltb 1
 pub fits-long : (S : Start) (m : Message) (k : ℕ) (c : Condition) → recordOf m ≡ longRecord k → 1 ≤ m .slots → Fits S m c → longWithin c ≡ true
 unfolding longWithin
 fits-long S m k Free e lo f = refl
+fits-long S m k (Held t) e lo f = more-than S m k t e lo f
 fits-long S m k (Fresh t) e lo f = more-than S m k t e lo f
 fits-long S m k (Asked g j t) e lo f = more-than S m k t e lo (f .0)
 fits-long S m k (Resolving g i t) e lo f = more-than S m k t e lo (f .0)
@@ -63,6 +65,7 @@ fits-long S m k (Long x l t) e lo f = more-than S m k t e lo (f .0)
 short-silent : (n r : ℕ) (a : Condition) → shortWithin a ≡ true → sendsBy zero (suc n) r a ≡ 0
 unfolding shortWithin
 short-silent n r Free e = refl
+short-silent n r (Held t) e = refl
 short-silent n r (Fresh t) e = refl
 short-silent n r (Asked g j t) e = refl
 short-silent n r (Resolving g i t) e = refl
@@ -72,6 +75,7 @@ short-silent n r (Long f l t) e = absurd (no-true e)
 long-silent : (h n r : ℕ) (b : Condition) → longWithin b ≡ true → sendsBy (suc h) n r b ≡ 0
 unfolding longWithin
 long-silent h n r Free e = refl
+long-silent h n r (Held t) e = refl
 long-silent h n r (Fresh t) e = refl
 long-silent h n r (Asked g j t) e = refl
 long-silent h n r (Resolving g i t) e = refl
@@ -81,6 +85,7 @@ long-silent h n r (Long f l t) e = refl
 pub long-open : (r : ℕ) (b : Condition) → longWithin b ≡ true → sendsBy zero zero r b ≡ 0
 unfolding longWithin
 long-open r Free e = refl
+long-open r (Held t) e = refl
 long-open zero (Fresh t) e = let w : 1 < t = ltb-true 1 t e in rw (ne-eqb t 1 (λ q. omega arith))
 long-open (suc r) (Fresh t) e = refl
 long-open r (Asked g j t) e = refl
@@ -98,6 +103,7 @@ one-sends none zero zero r a b p q = inr (long-open r b q)
 pub fresh-silent : (o : Option ℕ) (h n r : ℕ) (b : Condition) → longWithin b ≡ true → isFresh b ≡ true → sendsIn o h n r b ≡ 0
 fresh-silent (some x) h n r b q f = refl
 fresh-silent none h n r Free q f = absurd (no-true f)
+fresh-silent none h n r (Held t) q f = absurd (no-true f)
 fresh-silent none (suc h) n r (Fresh t) q f = refl
 fresh-silent none zero (suc n) r (Fresh t) q f = refl
 fresh-silent none zero zero r (Fresh t) q f = long-open r (Fresh t) q
@@ -112,6 +118,7 @@ fresh-silent none h n r (Long x l t) q f = absurd (no-true f)
 pub resolving-one : (g r : ℕ) (a : Condition) → requests (suc r) g a ≡ true → standsIn g 1 a ≡ true
 unfolding requests
 resolving-one g r Free e = absurd (no-true e)
+resolving-one g r (Held t) e = absurd (no-true e)
 resolving-one g r (Fresh t) e = absurd (no-true (sym (ne-eqb (suc r) 0 (λ q. omega arith)) ∙ e))
 resolving-one g r (Asked h j t) e = absurd (no-true e)
 resolving-one g r (Resolving h i t) e = rw (lt-ltb 0 (suc r) (omega arith)) at e
@@ -121,6 +128,7 @@ resolving-one g r (Long f l t) e = absurd (no-true e)
 fresh-one : (g : ℕ) (a : Condition) → requests zero g a ≡ true → isFresh a ≡ true
 unfolding requests
 fresh-one g Free e = absurd (no-true e)
+fresh-one g (Held t) e = absurd (no-true e)
 fresh-one g (Fresh t) e = refl
 fresh-one g (Asked h j t) e = absurd (no-true e)
 fresh-one g (Resolving h i t) e = absurd (no-true e)
@@ -129,6 +137,7 @@ fresh-one g (Long f l t) e = absurd (no-true e)
 
 pub one-asks : (r g pick j k : ℕ) (a b : Condition) → Parted a b → requests r g a ≡ true → requestSender (isFresh a) r g pick j k b ≡ []
 one-asks r g pick j k a Free p e = refl
+one-asks r g pick j k a (Held t) p e = refl
 one-asks zero g pick j k a (Fresh t) p e = rw (fresh-one g a e)
 one-asks (suc r) g pick j k a (Fresh t) p e = refl
 one-asks r g pick j k a (Asked h i t) p e = refl

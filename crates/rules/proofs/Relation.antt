@@ -12,7 +12,7 @@ use Rattle.listlaws.specs.Lists.{onlyIf}
 use Rattle.rules.specs.Messages.{Message, Segment, of, segmentsFrom, deliveredOf, recordOf, shortRecord, longRecord}
 use Rattle.rules.specs.Plain.{Queues, Plain, PlainResult, among, onChannel}
 use Rattle.rules.specs.Positions.{one, part}
-use Rattle.rules.specs.StationLimits.{Condition, Free, Fresh, Asked, Resolving, Urgent, Long, recordsApart}
+use Rattle.rules.specs.StationLimits.{Condition, Free, Held, Fresh, Asked, Resolving, Urgent, Long, recordsApart}
 use lib.Dec.{eqb}
 
 -- the counters that the plain queues' lengths are
@@ -20,8 +20,18 @@ abbrev pub lengths : Queues → Places
 lengths q = record { urgent = length (q .urgent); long = length (q .long); resolution = length (q .resolution) }
 
 -- what a record with message m in a condition must see of each container, by places from 0
+abbrev pub heldOf : Message → Condition → List Message
+heldOf m Free = []
+heldOf m (Held t) = m ∷ []
+heldOf m (Fresh t) = []
+heldOf m (Asked g j t) = []
+heldOf m (Resolving g i t) = []
+heldOf m (Urgent i) = []
+heldOf m (Long f l t) = []
+
 abbrev pub freshOf : Message → Condition → List Message
 freshOf m Free = []
+freshOf m (Held t) = []
 freshOf m (Fresh t) = m ∷ []
 freshOf m (Asked g j t) = []
 freshOf m (Resolving g i t) = []
@@ -30,6 +40,7 @@ freshOf m (Long f l t) = []
 
 abbrev pub askedOf : ℕ → Message → Condition → ℕ → List Message
 askedOf g m Free i = []
+askedOf g m (Held t) i = []
 askedOf g m (Fresh t) i = []
 askedOf g m (Asked h j t) i = onlyIf (eqb h g) (atPlace j (atFirst (m ∷ [])) i)
 askedOf g m (Resolving h j t) i = []
@@ -38,6 +49,7 @@ askedOf g m (Long f l t) i = []
 
 abbrev pub resolvingOf : ℕ → Message → Condition → ℕ → List Message
 resolvingOf g m Free i = []
+resolvingOf g m (Held t) i = []
 resolvingOf g m (Fresh t) i = []
 resolvingOf g m (Asked h j t) i = []
 resolvingOf g m (Resolving h j t) i = onlyIf (eqb h g) (atPlace j (atFirst (m ∷ [])) i)
@@ -46,6 +58,7 @@ resolvingOf g m (Long f l t) i = []
 
 abbrev pub urgentOf : Message → Condition → ℕ → List Message
 urgentOf m Free i = []
+urgentOf m (Held t) i = []
 urgentOf m (Fresh t) i = []
 urgentOf m (Asked h j t) i = []
 urgentOf m (Resolving h j t) i = []
@@ -54,6 +67,7 @@ urgentOf m (Long f l t) i = []
 
 abbrev pub longOf : Message → Condition → ℕ → List Segment
 longOf m Free i = []
+longOf m (Held t) i = []
 longOf m (Fresh t) i = []
 longOf m (Asked h j t) i = []
 longOf m (Resolving h j t) i = []
@@ -63,6 +77,7 @@ longOf m (Long f l t) i = atPlace f (run m l (suc (t - l))) i
 -- the segments of a record's message that are still to come, and all segments of some messages
 abbrev pub remaining : Message → Condition → List Segment
 remaining m Free = []
+remaining m (Held t) = []
 remaining m (Fresh t) = segmentsFrom m (m .slots) 1
 remaining m (Asked g j t) = segmentsFrom m (m .slots) 1
 remaining m (Resolving g i t) = segmentsFrom m (m .slots) 1
@@ -76,6 +91,7 @@ whole (m ∷ l) = segmentsFrom m (m .slots) 1 ++ whole l
 -- a condition is its message's, within the limits of the paper
 abbrev pub Fits : Start → Message → Condition → Type 0
 Fits S m Free = Unit {0}
+Fits S m (Held t) = t ≡ m .slots
 Fits S m (Fresh t) = t ≡ m .slots
 Fits S m (Asked g j t) = (t ≡ m .slots) × (1 ≤ g) × (g ≤ S .n) × (1 ≤ j) × (j ≤ S .m)
 Fits S m (Resolving g i t) = (t ≡ m .slots) × (1 ≤ g) × (g ≤ S .n) × (1 ≤ i)
@@ -95,6 +111,7 @@ pub record Agrees (S : Start) (p : Plain) (k : ℕ) (m : Message) (c : Condition
   pub mine : recordOf m ≡ k
   pub some : 1 ≤ m .slots
   pub few : m .slots ≤ 255
+  pub held : of k (p .held) ≡ heldOf m c
   pub fresh : of k (p .fresh) ≡ freshOf m c
   pub urgent : (i : ℕ) → seen (one k) (p .urgent) i ≡ urgentOf m c i
   pub long : (i : ℕ) → seen (part k) (p .long) i ≡ longOf m c i

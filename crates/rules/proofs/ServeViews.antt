@@ -15,7 +15,7 @@ use Rattle.listlaws.specs.Lists.{keepIf, onlyIf}
 use Rattle.rules.specs.Messages.{Message, Segment, segment, segmentsFrom, deliveredOf, recordOf}
 use Rattle.rules.specs.Plain.{served}
 use Rattle.rules.specs.Positions.{one, part}
-use Rattle.rules.specs.StationLimits.{Condition, Free, Fresh, Asked, Resolving, Urgent, Long}
+use Rattle.rules.specs.StationLimits.{Condition, Free, Held, Fresh, Asked, Resolving, Urgent, Long}
 use lib.Dec.{eqb}
 
 -- one law for each view that steps 3 to 5 leave alone
@@ -24,6 +24,7 @@ module _ (g j : ℕ) where
       (down : (h i t : ℕ) → eqb h g ≡ true → W (Resolving h (suc i) t) ≡ W (Resolving h (suc (suc i)) t)) where
     pub asks-view : (b : Bool) (r : ℕ) (c : Condition) → W (asks b r g j c) ≡ W c
     asks-view b zero Free = refl
+    asks-view b zero (Held t) = refl
     asks-view true zero (Fresh t) = refl
     asks-view false zero (Fresh t) = fresh t
     asks-view b zero (Asked h i t) = refl
@@ -31,6 +32,7 @@ module _ (g j : ℕ) where
     asks-view b zero (Urgent i) = refl
     asks-view b zero (Long f l t) = refl
     asks-view b (suc r) Free = refl
+    asks-view b (suc r) (Held t) = refl
     asks-view b (suc r) (Fresh t) = refl
     asks-view b (suc r) (Asked h i t) = refl
     asks-view b (suc r) (Resolving h i t) = go (eqb h g) refl i
@@ -46,6 +48,7 @@ module _ (g j : ℕ) where
 module _ {ℓ} {E : Type ℓ} (W : Condition → E) (u : (i : ℕ) → W (Urgent i) ≡ W Free) (n : (f l t : ℕ) → W (Long f l t) ≡ W Free) where
   pub falls-view : (h k : ℕ) (c : Condition) → W (falls h k c) ≡ W c
   falls-view h k Free = refl
+  falls-view h k (Held t) = refl
   falls-view h k (Fresh t) = refl
   falls-view h k (Asked g j t) = refl
   falls-view h k (Resolving g i t) = refl
@@ -71,6 +74,7 @@ module _ {ℓ} {E : Type ℓ} (W : Condition → E) (u : (i : ℕ) → W (Urgent
 module _ (S : Start) (g j : ℕ) (m : Message) (gl : 1 ≤ g) (gh : g ≤ S .n) (jl : 1 ≤ j) (jh : j ≤ S .m) where
   pub asks-fits : (b : Bool) (r : ℕ) (c : Condition) → Fits S m c → Fits S m (asks b r g j c)
   asks-fits b zero Free f = f
+  asks-fits b zero (Held t) f = f
   asks-fits true zero (Fresh t) f = f
   asks-fits false zero (Fresh t) f = omega arith
   asks-fits b zero (Asked h i t) f = f
@@ -78,6 +82,7 @@ module _ (S : Start) (g j : ℕ) (m : Message) (gl : 1 ≤ g) (gh : g ≤ S .n) 
   asks-fits b zero (Urgent i) f = f
   asks-fits b zero (Long x l t) f = f
   asks-fits b (suc r) Free f = f
+  asks-fits b (suc r) (Held t) f = f
   asks-fits b (suc r) (Fresh t) f = f
   asks-fits b (suc r) (Asked h i t) f = f
   asks-fits b (suc r) (Resolving h i t) f = go (eqb h g) i f
@@ -92,6 +97,7 @@ module _ (S : Start) (g j : ℕ) (m : Message) (gl : 1 ≤ g) (gh : g ≤ S .n) 
 
 pub falls-fits : (S : Start) (m : Message) (h k : ℕ) (c : Condition) → Fits S m c → Fits S m (falls h k c)
 falls-fits S m h k Free f = f
+falls-fits S m h k (Held t) f = f
 falls-fits S m h k (Fresh t) f = f
 falls-fits S m h k (Asked g j t) f = f
 falls-fits S m h k (Resolving g i t) f = f
@@ -149,6 +155,7 @@ module _ (k : ℕ) (m : Message) where
         → deliveredOf k (served o u l) ++ remaining m (falls (heeded o (length u)) (heeded o (length l)) c) ≡ remaining m c
     serve-told (some x) u l c f a b = ap (remaining m) (falls-still c)
     serve-told none u l Free f a b = rw (none-served u l a b)
+    serve-told none u l (Held t) f a b = rw (none-served u l a b)
     serve-told none u l (Fresh t) f a b = rw (none-served u l a b)
     serve-told none u l (Asked g j t) f a b = rw (none-served u l a b)
     serve-told none u l (Resolving g i t) f a b = rw (none-served u l a b)

@@ -11,7 +11,7 @@ use Rattle.minislot.specs.declared.Feedback.{Feedback}
 use Rattle.minislot.specs.declared.Feedback.the-variants.{Empty, Single, Collide}
 use Rattle.rules.specs.declared.Counters.{Counters}
 use Rattle.rules.specs.declared.Places.{Places}
-use Rattle.rules.specs.StationLimits.{Condition, Free, Fresh, Asked, Resolving, Urgent, Long}
+use Rattle.rules.specs.StationLimits.{Condition, Free, Held, Fresh, Asked, Resolving, Urgent, Long}
 use Rattle.rules.specs.Queueing.{queued, queuedRow, placesBefore, placesOf, immediateOf, placesAfter, stepOneOf}
 use Rattle.rules.specs.declared.Landed.{Landed}
 use Rattle.rules.specs.declared.Station.{Station}
@@ -46,6 +46,7 @@ feedbackAt row j = getD row (j - 1) Empty
 -- step 1 for a station in any condition: g is the slot's group, b whether success is immediate, p the lengths before the row
 unfoldable pub settledBy : Bool → ℕ → Places → List Feedback → Condition → Condition
 settledBy b g p row Free = Free
+settledBy b g p row (Held t) = Held t
 settledBy b g p row (Fresh t) = Fresh t
 settledBy b g p row (Asked h j t) = cond (eqb h g) (standsAfter b g (placesBefore b p row j) (feedbackAt row j) t) (Asked h j t)
 settledBy b g p row (Resolving h i t) = Resolving h i t
@@ -87,6 +88,7 @@ pub settled-same : (b : Bool) (g : ℕ) (p : Places) (row : List Feedback) (n : 
     → settledIn (landings b p row n) g k ≡ settledBy b g p row k
 unfolding settledIn settledBy
 settled-same b g p row n Free h = refl
+settled-same b g p row n (Held t) h = refl
 settled-same b g p row n (Fresh t) h = refl
 settled-same b g p row n (Asked x j t) h =
     ap (λ (c : Condition). cond (eqb x g) c (Asked x j t))

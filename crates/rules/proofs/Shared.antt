@@ -7,17 +7,17 @@ use Prim.Native.Nat.{ℕ, zero, suc, _+_}
 use lib.Dec.{eqb}
 use lib.ListN.{length, getD}
 use Rattle.minislot.specs.declared.Feedback.{Feedback}
-use Rattle.message.specs.Message.{fitsMessage, fitsShort, slotsFor}
 use Rattle.rules.specs.declared.Places.{Places}
 use Rattle.listlaws.specs.Lists.{onlyIf}
 use Rattle.rules.specs.Calendars.{freeEntry, freeCalendar, ownerIn, positionAfter}
 use Rattle.rules.specs.Queueing.{immediate, queuedRow, passes}
 use Rattle.rules.specs.Turns.{turnOf, isOpen}
 use Rattle.rules.specs.Falling.{following}
-use Rattle.rules.specs.StationLimits.{Condition, Free, Fresh, Asked, Resolving, Urgent, Long}
-use Rattle.rules.specs.StationCalls.{isFree}
-use Rattle.rules.specs.Calls.{Start, index, Answer, Refused, Taken, Set, Went, Call, Offer, Slot, Calendar}
-use Rattle.rules.specs.Plain.{stationFrom, inRange, among, onChannel}
+use Rattle.rules.specs.StationLimits.{Condition, Free, Held, Fresh, Asked, Resolving, Urgent, Long}
+use Rattle.rules.specs.Refusing.{byNumber}
+use Rattle.rules.specs.Writing.{Writing, writes, writingNumberAt, writingTotalAt, writtenAs}
+use Rattle.rules.specs.Calls.{Start, index, Answer, Refused, Set, Went, Call, Write, Slot, Calendar, writingAnswer}
+use Rattle.rules.specs.Plain.{stationFrom, inRange, among, onChannel, recordNamed}
 use Rattle.rules.specs.Messages.{shortRecord, longRecord}
 use Rattle.rules.specs.Stepping.{isFresh}
 use Rattle.rules.proofs.Views.{Sender, senderAt}
@@ -64,6 +64,7 @@ indexOf S k = index S (holder k)
 -- the record asked in minislot j of group g, and the row that the wire holds of the group: n minislots from j
 abbrev pub askedSender : ℕ → ℕ → ℕ → Condition → List Sender
 askedSender g j k Free = []
+askedSender g j k (Held t) = []
 askedSender g j k (Fresh t) = []
 askedSender g j k (Asked h i t) = onlyIf (eqb h g) (onlyIf (eqb i j) (senderAt k t ∷ []))
 askedSender g j k (Resolving h i t) = []
@@ -85,33 +86,32 @@ senderIf k (suc s) = senderAt k (suc s) ∷ []
 abbrev pub tableRefuse : Table → ℕ → TableResult
 tableRefuse t n = record { state = t; answer = Refused n }
 
-abbrev pub tableAccept : Table → ℕ → ℕ → TableResult
-tableAccept t k s =
+-- record r stands at c, and nothing else changes
+abbrev pub tableWith : Table → ℕ → Condition → Table
+tableWith t r c =
     record {
-      state =
-          record {
-            h = t .h;
-            n = t .n;
-            rq = t .rq;
-            opened = t .opened;
-            next = t .next;
-            calendar = t .calendar;
-            position = t .position;
-            condition = λ i. cond (eqb i k) (Fresh s) (t .condition i);
-          };
-      answer = Taken s;
+      h = t .h;
+      n = t .n;
+      rq = t .rq;
+      opened = t .opened;
+      next = t .next;
+      calendar = t .calendar;
+      position = t .position;
+      condition = λ i. cond (eqb i r) c (t .condition i);
     }
 
--- the record of station k that a message of this many bytes is for
-abbrev pub recordTaking : ℕ → ℕ → ℕ
-recordTaking k bytes = cond (fitsShort bytes) (shortRecord k) (longRecord k)
+-- a writing that goes through to record r, which stands at c
+abbrev pub tableWritten : Table → ℕ → Writing → Condition → TableResult
+tableWritten t r w c =
+    record { state = tableWith t r (writtenAs w (writingTotalAt w c)); answer = writingAnswer w (writingTotalAt w c) }
 
-abbrev pub tableOffer : Table → ℕ → Option ℕ → TableResult
-tableOffer t bytes none = tableRefuse t 16
-tableOffer t bytes (some k) =
-    cond (fitsMessage bytes)
-    (cond (isFree (t .condition (recordTaking k bytes))) (tableAccept t (recordTaking k bytes) (slotsFor bytes)) (tableRefuse t 9))
-    (tableRefuse t 10)
+-- a writing of record r, and of the station of an index
+abbrev pub tableWriting : Table → ℕ → Writing → TableResult
+tableWriting t r w = byNumber (writingNumberAt w (t .condition r)) (tableRefuse t) (tableWritten t r w (t .condition r))
+
+abbrev pub tableWrite : Table → Writing → Option ℕ → TableResult
+tableWrite t w none = tableRefuse t 16
+tableWrite t w (some k) = tableWriting t (recordNamed k (writes w)) w
 
 abbrev pub tableSet : Table → List ℕ → TableResult
 tableSet t entries =
@@ -185,7 +185,7 @@ abbrev pub tableSettled : Start → Table → Places
 tableSettled S t = queuedRow (tableSuccess t (tableRow S t)) (tablePlaces t) (tableRow S t)
 
 abbrev pub tableCall : Start → Table → Call → TableResult
-tableCall S t (Offer x bytes) = tableOffer t bytes (stationFrom 0 (S .indexes) x)
+tableCall S t (Write x w) = tableWrite t w (stationFrom 0 (S .indexes) x)
 tableCall S t (Slot picks) =
     cond (eqb (length picks) (length (S .indexes)))
     (cond (inRange (S .m) picks)

@@ -29,7 +29,7 @@ use Rattle.rules.specs.Falling.{following}
 use Rattle.rules.specs.Messages.{Message, Segment, ofBy, of, shortRecord, longRecord}
 use Rattle.rules.specs.Plain.{Queues, Plain, joinAlone, joinMinislot, joinRow, queuesOf, plainSuccess, plainSettled, overflows, plainOwner, renewed, plainMark, nextGroup, plainWent, plainSenders, plainLoneIndex, plainLoneSegment, plainAnswer, grown, plainTurn, served, sent, rest, urgentLeft, longLeft, askingRow, someOf}
 use Rattle.rules.specs.Queueing.{queuedRow, passes}
-use Rattle.rules.specs.StationLimits.{Condition, Free, Fresh, Asked, Resolving, Urgent, Long, recordsApart}
+use Rattle.rules.specs.StationLimits.{Condition, Free, Held, Fresh, Asked, Resolving, Urgent, Long, recordsApart}
 use Rattle.rules.specs.Stepping.{isFresh}
 use Rattle.rules.specs.Turns.{Turn, OwnedTurn, UrgentTurn, LongTurn, ResolveTurn, OpenTurn, isOpen, turnOf}
 use Rattle.rules.specs.declared.Places.{Places}
@@ -121,6 +121,7 @@ seen-inside f (y ∷ q) (suc i) x e = omega (arith, seen-inside f q i x e)
 
 some-fresh : (m : Message) (c : Condition) → someOf (freshOf m c) ≡ isFresh c
 some-fresh m Free = refl
+some-fresh m (Held t) = refl
 some-fresh m (Fresh t) = refl
 some-fresh m (Asked g j t) = refl
 some-fresh m (Resolving g i t) = refl
@@ -264,6 +265,7 @@ module _ (S : Start) (p : Plain) (t : Table) (R : Same S p t) where
     where
       go : (c : Condition) → Agrees S p k (R .message k) c → standsIn g i c ≡ true → i ≤ t .rq g
       go Free a e = absurd (no-true e)
+      go (Held x) a e = absurd (no-true e)
       go (Fresh x) a e = absurd (no-true e)
       go (Asked h j x) a e = absurd (no-true e)
       go (Resolving h zero x) a e = let f : Fits S (R .message k) (Resolving h zero x) = a .fits in absurd (omega arith)

@@ -21,7 +21,7 @@ use Rattle.rules.specs.Limits.{between}
 use Rattle.rules.specs.Hearing.{feedbackOf}
 use Rattle.rules.specs.Queueing.{queued, queuedSingle, queuedRow, passes, stepOneOf}
 use Rattle.rules.specs.Listening.{hasRow}
-use Rattle.rules.specs.StationLimits.{Condition, Free, Fresh, Asked, Resolving, Urgent, Long, conditionWithin, stationWithin, isTotal}
+use Rattle.rules.specs.StationLimits.{Condition, Free, Held, Fresh, Asked, Resolving, Urgent, Long, conditionWithin, stationWithin, isTotal}
 use Rattle.rules.specs.OwnHearing.{ownMinislot, hearsAt, hearsFrom, hearsItself}
 use Rattle.rules.specs.Outcome.{outcomeOf}
 use Rattle.rules.specs.Stepping.{stepOf}
@@ -38,6 +38,7 @@ use Rattle.rules.proofs.SlotStep.{and-both}
 pub own-within : (c : Counters) (g : ℕ) (k : Condition) → conditionWithin c k ≡ true → ownMinislot g k ≤ c .minislots
 unfolding conditionWithin
 own-within c g Free e = omega arith
+own-within c g (Held t) e = omega arith
 own-within c g (Fresh t) e = omega arith
 own-within c g (Asked h j t) e =
     let p = and-both (between 1 h (c .groups) && between 1 j (c .minislots)) (isTotal t) e in

@@ -1,9 +1,8 @@
 -- A station's record beside the shared table: its slot, from its own counters alone, makes it the record of the table's next state, and sends what the
--- table says; an offer to it goes by its own list of numbers. Assumes nothing.
+-- table says; and each of its message records stands there as it stands in the table. Assumes nothing.
 use mathlib.Core.Path.{_≡_, refl, sym, ap, subst, _∙_}
 use mathlib.Core.Bool.{Bool, true, false, _&&_, cond}
 use mathlib.Core.List.{List, [], _∷_}
-use mathlib.Core.Option.{some}
 use mathlib.Core.Logic.{_≢_}
 use Prim.Native.Nat.{ℕ, zero, suc, _-_, _≤_, _<_}
 use native.Mathlib.Omega.{arith}
@@ -11,7 +10,6 @@ use lib.Dec.{eqb}
 use lib.ListN.{length, getD, set, length-set}
 use lib.Seq.{getD-set-same, getD-set-other}
 use borrow.Author.Tests.{eqb-true, eqb-false}
-use Rattle.message.specs.Message.{fitsMessage, fitsShort, slotsFor}
 use Rattle.minislot.specs.declared.Feedback.{Feedback}
 use Rattle.minislot.specs.declared.Reading.{Reading}
 use Rattle.minislot.specs.declared.Reading.the-variants.{Heard, Refused}
@@ -25,14 +23,15 @@ use Rattle.rules.specs.Queueing.{queuedRow, immediate, placesOf, immedia
 use Rattle.rules.specs.Turns.{turnOf, isOpen}
 use Rattle.rules.specs.Falling.{fallen}
 use Rattle.rules.specs.Listening.{hasRow}
-use Rattle.rules.specs.StationLimits.{Condition, Free, Fresh, Asked, Resolving, Urgent, Long, stationWithin}
+use Rattle.rules.specs.StationLimits.{Condition, Free, Held, Fresh, Asked, Resolving, Urgent, Long, stationWithin}
 use Rattle.rules.specs.declared.Acted.{Acted}
 use Rattle.rules.specs.Messages.{shortRecord, longRecord}
 use Rattle.rules.specs.Requesting.{requests}
 use Rattle.rules.specs.OwnHearing.{hearsItself}
 use Rattle.rules.specs.Serving.{moved}
-use Rattle.rules.specs.StationCalls.{isFree, takingNumberOf, heardSlotNumberOf, slotNumberOf, slotOf}
-use Rattle.rules.specs.Refusing.{unless, byNumber}
+use Rattle.rules.specs.StationCalls.{heardSlotNumberOf, slotNumberOf, slotOf}
+use Rattle.rules.specs.Writing.{Which, ShortOne, LongOne, recordIn}
+use Rattle.rules.specs.Plain.{recordNamed}
 use Rattle.rules.specs.Outcome.{outcomeOf}
 use Rattle.rules.specs.Stepping.{isFresh, stays, stepOf}
 use Rattle.rules.specs.Calls.{Start, index}
@@ -41,7 +40,7 @@ use Rattle.rules.proofs.Clauses.{settle, asks, falls, heeded, less, req
 use Rattle.rules.proofs.Records.{holder, holder-short, holder-long, kind-short, kind-long}
 use Rattle.rules.proofs.Parting.{fresh-settled}
 use Rattle.rules.proofs.ClauseLaws.{Placed, settle-is, asks-is, falls-is, sends-is, less-is, urgent-falls-is, long-falls-is}
-use Rattle.rules.proofs.Shared.{Table, TableResult, tableRefuse, tableAccept, tableOffer, recordTaking, tablePlaces, tableSuccess, tableOwner, tableCondition, tableHeld, tableWent, tableSends}
+use Rattle.rules.proofs.Shared.{Table, tablePlaces, tableSuccess, tableOwner, tableCondition, tableHeld, tableWent, tableSends}
 use Rattle.rules.proofs.Settled.{settledOf, requesting, segmentSent, conditionAfter, actedBy, besideBy, stationAfter, wentBy, step-is}
 use Rattle.rules.proofs.QueueingLaws.{fits-if}
 use Rattle.rules.proofs.LimitLaws.{within-limits, station-in}
@@ -107,12 +106,14 @@ held-stays (suc r) g pick t h n = refl
 
 pub held-other : (r g pick : ℕ) (c : Condition) → isFresh c ≡ false → asks true r g pick c ≡ asks false r g pick c
 held-other zero g pick Free e = refl
+held-other zero g pick (Held t) e = refl
 held-other zero g pick (Fresh t) e = cc
 held-other zero g pick (Asked h i t) e = refl
 held-other zero g pick (Resolving h i t) e = refl
 held-other zero g pick (Urgent i) e = refl
 held-other zero g pick (Long f l t) e = refl
 held-other (suc r) g pick Free e = refl
+held-other (suc r) g pick (Held t) e = refl
 held-other (suc r) g pick (Fresh t) e = cc
 held-other (suc r) g pick (Asked h i t) e = refl
 held-other (suc r) g pick (Resolving h i t) e = refl
@@ -129,6 +130,7 @@ module _ (b : Bool) (g : ℕ) (row : List Feedback) (p : Places) (r pick h n : �
           → (cond f (stays c) y) .condition ≡ falls h n (asks true r g pick (settle b g row p c))
       go c e false f = e ∙ ap (falls h n) (sym (held-other r g pick (settle b g row p c) (fresh-settled b g row p c ∙ f)))
       go Free e true f = cc
+      go (Held t) e true f = cc
       go (Fresh t) e true f = held-stays r g pick t h n
       go (Asked x i t) e true f = cc
       go (Resolving x i t) e true f = cc
@@ -253,18 +255,8 @@ module _ (s : Station) (words counts : List ℕ) (row : List Feedback) (pick : �
   pub slot-passes : slotOf s words counts pick ≡ wentBy s row pick
   slot-passes = slot-steps ∙ step-is s row pick (subst (λ (r : List Feedback). length r ≤ 8) ef (row-fits s words counts e18 e6))
 
--- an offer to a station that is there, by the station's own list of numbers
-pub offer-is : (t : Table) (k bytes : ℕ) (s : Station) → s .short .condition ≡ t .condition (shortRecord k) → s .long .condition ≡ t .condition (longRecord k)
-    → tableOffer t bytes (some k) ≡ byNumber (takingNumberOf s bytes) (tableRefuse t) (tableAccept t (recordTaking k bytes) (slotsFor bytes))
-offer-is t k bytes s x y = rw (x, y) (pick (fitsShort bytes))
-  where
-    go : (b c : Bool) (w : TableResult) → cond c (cond b w (tableRefuse t 9)) (tableRefuse t 10) ≡ byNumber (unless c 10 (unless b 9 0)) (tableRefuse t) w
-    go true true w = refl
-    go false true w = refl
-    go b false w = refl
-
-    pick : (b : Bool)
-        → cond (fitsMessage bytes) (cond (isFree (t .condition (cond b (shortRecord k) (longRecord k)))) (tableAccept t (cond b (shortRecord k) (longRecord k)) (slotsFor bytes)) (tableRefuse t 9)) (tableRefuse t 10)
-        ≡ byNumber (unless (fitsMessage bytes) 10 (unless (isFree (cond b (t .condition (shortRecord k)) (t .condition (longRecord k)))) 9 0)) (tableRefuse t) (tableAccept t (cond b (shortRecord k) (longRecord k)) (slotsFor bytes))
-    pick true = go (isFree (t .condition (shortRecord k))) (fitsMessage bytes) _
-    pick false = go (isFree (t .condition (longRecord k))) (fitsMessage bytes) _
+-- where a record stands in the table is where it stands in the station
+pub record-is : (t : Table) (k : ℕ) (s : Station) → s .short .condition ≡ t .condition (shortRecord k) → s .long .condition ≡ t .condition (longRecord k)
+    → (o : Which) → t .condition (recordNamed k o) ≡ recordIn o s
+record-is t k s x y ShortOne = sym x
+record-is t k s x y LongOne = sym y

@@ -3,7 +3,6 @@
 -- definitions answer just this. Assumes nothing.
 use mathlib.Core.List.{List, [], _∷_}
 use Prim.Native.Nat.{ℕ}
-use Rattle.message.specs.Message.{slotsFor}
 use Rattle.rows.specs.Row.{readings, feedbacks}
 use Rattle.rules.specs.declared.Acted.{Acted}
 use Rattle.rules.specs.declared.Counters.{Counters}
@@ -17,7 +16,8 @@ use Rattle.rules.specs.Turns.{Turn, turnOf}
 use Rattle.rules.specs.Listening.{listenNumberOf}
 use Rattle.rules.specs.Outcome.{outcomeOf}
 use Rattle.rules.specs.Stepping.{actsOf, actsBeside, asker, sender}
-use Rattle.rules.specs.StationCalls.{stationStartNumberOf, offerNumberOf, slotNumberOf}
+use Rattle.rules.specs.StationCalls.{stationStartNumberOf, slotNumberOf}
+use Rattle.rules.specs.Writing.{Writing, writingTotalOf, writeNumberOf}
 use Rattle.rules.specs.Settings.{calendarNumberOf, stationCalendarNumberOf}
 use Rattle.rules.specs.Numbers.{Told, refusal, went}
 use Rattle.rules.specs.Recorded.{stretch}
@@ -36,8 +36,8 @@ listenToldOf c words counts =
 unfoldable pub stationStartToldOf : ℕ → ℕ → ℕ → Told
 stationStartToldOf m n index = told (stationStartNumberOf m n index) [] []
 
-unfoldable pub offerToldOf : Station → ℕ → Told
-offerToldOf s bytes = told (offerNumberOf s bytes) [] (slotsFor bytes ∷ [])
+unfoldable pub writeToldOf : Station → Writing → Told
+writeToldOf s w = told (writeNumberOf s w) [] (writingTotalOf s w ∷ [])
 
 -- a slot that goes through: the turn, the minislot of its request and the segment it sends
 abbrev pub slotTurn : Outcome → List Turn

@@ -10,11 +10,12 @@ use Rattle.pattern.specs.Patterns.{wordOf}
 use Rattle.minislot.specs.declared.Feedback.{Feedback}
 use Rattle.minislot.specs.declared.Feedback.the-variants.{Empty, Single, Collide}
 use Rattle.rules.specs.declared.Station.{Station}
-use Rattle.rules.specs.StationLimits.{Condition, Free, Fresh, Asked, Resolving, Urgent, Long}
+use Rattle.rules.specs.StationLimits.{Condition, Free, Held, Fresh, Asked, Resolving, Urgent, Long}
 
 -- the minislot where a message makes its station listen for itself in group g (0 for none), and its total
 abbrev pub ownMinislot : ℕ → Condition → ℕ
 ownMinislot g Free = 0
+ownMinislot g (Held t) = 0
 ownMinislot g (Fresh t) = 0
 ownMinislot g (Asked h j t) = cond (eqb h g) j 0
 ownMinislot g (Resolving h i t) = 0
@@ -23,6 +24,7 @@ ownMinislot g (Long f l t) = 0
 
 abbrev pub ownTotal : Condition → ℕ
 ownTotal Free = 0
+ownTotal (Held t) = 0
 ownTotal (Fresh t) = 0
 ownTotal (Asked h j t) = t
 ownTotal (Resolving h i t) = 0

@@ -1,4 +1,4 @@
--- THE PLAIN CHANNEL (paper 01, "The plain channel"; paper 02, T-02, T-04 and T-05): queues of messages and of segments, fed the start's
+-- THE PLAIN CHANNEL (paper 01, "The plain channel"; paper 02, T-02 and T-04 to T-06): queues of messages and of segments, fed the start's
 -- m, n and indexes and each call's arguments, nothing from table or wire. Assumes nothing.
 use mathlib.Core.Bool.{Bool, true, false, not, _&&_, _||_, cond}
 use mathlib.Core.List.{List, [], _∷_, _++_, map}
@@ -8,10 +8,15 @@ use lib.Dec.{leb, ltb, eqb}
 use lib.ListN.{length, getD, replicate}
 use Rattle.message.specs.Message.{fitsMessage, slotsFor}
 use Rattle.listlaws.specs.Lists.{keepIf}
-use Rattle.rules.specs.Messages.{Message, Segment, segment, segmentsFrom, shortRecord, recordOf, of, deliveredOf}
+use Rattle.rules.specs.Messages.{Message, Segment, segment, segmentsFrom, shortRecord, longRecord, recordOf, of, deliveredOf}
 use Rattle.rules.specs.Calendars.{ownerIn}
 use Rattle.rules.specs.Turns.{Turn, OwnedTurn, UrgentTurn, LongTurn, ResolveTurn, OpenTurn}
-use Rattle.rules.specs.Calls.{Start, index, Answer, Refused, Taken, Set, Went, Call, Offer, Slot, Calendar}
+use Rattle.rules.specs.declared.Which.{Which}
+use Rattle.rules.specs.declared.Which.the-variants.{ShortOne, LongOne}
+use Rattle.rules.specs.declared.Writing.{Writing}
+use Rattle.rules.specs.declared.Writing.the-variants.{Offer, Hold, Commit, Withdraw}
+use Rattle.rules.specs.Calls.{Start, index, Answer, Refused, Taken, OnHold, Committed, Withdrawn, Set, Went}
+use Rattle.rules.specs.Calls.{Call, Write, Slot, Calendar}
 
 -- ---- what it keeps
 
@@ -21,9 +26,10 @@ pub record Group : Type 0 where
   pub asking : List (List Message)
   pub resolution : List (List Message)
 
--- fresh messages, an urgent queue of messages, a long queue of segments, the next group, the groups; the calendar as it was set and the
--- slots since the start; all messages taken; the history of deliveries
+-- messages that are held, which nobody has taken yet; fresh messages, an urgent queue of messages, a long queue of segments, the next
+-- group, the groups; the calendar as it was set and the slots since the start; all messages taken; the history of deliveries
 pub record Plain : Type 0 where
+  pub held : List Message
   pub fresh : List Message
   pub urgent : List Message
   pub long : List Segment
@@ -200,6 +206,7 @@ renewed S pick p q =
 abbrev pub plainWent : Start → (ℕ → ℕ) → Plain → Queues → Plain
 plainWent S pick p q =
     record {
+      held = p .held;
       fresh = staysFresh (q .resolution) (p .fresh);
       urgent = urgentLeft (plainOwner p) (q .urgent);
       long = longLeft (plainOwner p) (q .urgent) (q .long);
@@ -256,7 +263,7 @@ abbrev pub inRange : ℕ → List ℕ → Bool
 inRange m [] = true
 inRange m (x ∷ l) = leb 1 x && leb x m && inRange m l
 
--- ---- offers
+-- ---- offers, holds, commits and withdrawals
 
 -- the station of an index: the first, counted from k
 abbrev pub stationFrom : ℕ → List ℕ → ℕ → Option ℕ
@@ -268,40 +275,88 @@ abbrev pub slotSum : List Message → ℕ
 slotSum [] = 0
 slotSum (m ∷ l) = m .slots + slotSum l
 
--- 9: a message of record k, which is one of a station and a kind, is not all delivered, told by the totals (`nine` of Demand3: they tell
--- the same)
+-- a message of record k, which is one of a station and a kind, is not all delivered, told by the totals (`nine` of Demand3: they tell the
+-- same)
 abbrev pub waits : Plain → ℕ → Bool
 waits p k = not (eqb (slotSum (of k (p .taken))) (length (deliveredOf k (p .history))))
 
--- an offer taken adds a fresh message
-abbrev pub plainAccept : Plain → Message → PlainResult
-plainAccept p m =
+-- 9: a message of record k is held or not all delivered
+abbrev pub inUse : Plain → ℕ → Bool
+inUse p k = someOf (of k (p .held)) || waits p k
+
+-- other messages are held, fresh and taken, and nothing else changes
+abbrev pub plainWith : Plain → List Message → List Message → List Message → Plain
+plainWith p held fresh taken =
     record {
-      state =
-          record {
-            fresh = p .fresh ++ (m ∷ []);
-            urgent = p .urgent;
-            long = p .long;
-            next = p .next;
-            group = p .group;
-            calendar = p .calendar;
-            slots = p .slots;
-            taken = p .taken ++ (m ∷ []);
-            history = p .history;
-          };
-      answer = Taken (m .slots);
+      held = held;
+      fresh = fresh;
+      urgent = p .urgent;
+      long = p .long;
+      next = p .next;
+      group = p .group;
+      calendar = p .calendar;
+      slots = p .slots;
+      taken = taken;
+      history = p .history;
     }
 
--- a message of this many bytes, of station k
-abbrev pub newcomer : Plain → ℕ → ℕ → Message
-newcomer p k bytes = record { serial = length (p .taken); station = k; slots = slotsFor bytes }
+-- a message taken is fresh, and so has its turn to ask; these messages are held
+abbrev pub plainTakes : Plain → Message → Plain
+plainTakes p m = plainWith p (p .held) (p .fresh ++ (m ∷ [])) (p .taken ++ (m ∷ []))
 
-abbrev pub plainOffer : Plain → ℕ → Option ℕ → PlainResult
-plainOffer p bytes none = plainRefuse p 16
-plainOffer p bytes (some k) =
+abbrev pub plainHolds : Plain → List Message → Plain
+plainHolds p held = plainWith p held (p .fresh) (p .taken)
+
+-- a message of so many slots, of station k, numbered after all that were taken
+abbrev pub newcomer : Plain → ℕ → ℕ → Message
+newcomer p k slots = record { serial = length (p .taken); station = k; slots = slots }
+
+-- an offer: the message is taken; a hold: it is kept apart
+abbrev pub plainOffer : Plain → Message → PlainResult
+plainOffer p m = record { state = plainTakes p m; answer = Taken (m .slots) }
+
+abbrev pub plainHold : Plain → Message → PlainResult
+plainHold p m = record { state = plainHolds p (p .held ++ (m ∷ [])); answer = OnHold (m .slots) }
+
+-- a new message of station k: 10, 9, or what is done with it
+abbrev pub plainNew : Plain → ℕ → ℕ → (Message → PlainResult) → PlainResult
+plainNew p k bytes done =
     cond (fitsMessage bytes)
-    (cond (waits p (recordOf (newcomer p k bytes))) (plainRefuse p 9) (plainAccept p (newcomer p k bytes)))
+    (cond (inUse p (recordOf (newcomer p k (slotsFor bytes)))) (plainRefuse p 9) (done (newcomer p k (slotsFor bytes))))
     (plainRefuse p 10)
+
+-- the messages that are held, but for those of record k
+abbrev pub heldElse : Plain → ℕ → List Message
+heldElse p k = those (λ m. not (eqb (recordOf m) k)) (p .held)
+
+-- a commit of record k: the message is taken, and numbered then; a withdrawal: it goes, and was never taken
+abbrev pub plainCommit : Plain → ℕ → Message → PlainResult
+plainCommit p k m =
+    record { state = plainTakes (plainHolds p (heldElse p k)) (newcomer p (m .station) (m .slots)); answer = Committed (m .slots) }
+
+abbrev pub plainWithdraw : Plain → ℕ → Message → PlainResult
+plainWithdraw p k m = record { state = plainHolds p (heldElse p k); answer = Withdrawn (m .slots) }
+
+-- a message that is held of record k: 22 if there is none, or what is done with it
+abbrev pub plainHeld : Plain → (Message → PlainResult) → List Message → PlainResult
+plainHeld p done [] = plainRefuse p 22
+plainHeld p done (m ∷ l) = done m
+
+-- the record of station k that is named
+abbrev pub recordNamed : ℕ → Which → ℕ
+recordNamed k ShortOne = shortRecord k
+recordNamed k LongOne = longRecord k
+
+-- of station k
+abbrev pub plainWriting : Plain → ℕ → Writing → PlainResult
+plainWriting p k (Offer bytes) = plainNew p k bytes (plainOffer p)
+plainWriting p k (Hold bytes) = plainNew p k bytes (plainHold p)
+plainWriting p k (Commit o) = plainHeld p (plainCommit p (recordNamed k o)) (of (recordNamed k o) (p .held))
+plainWriting p k (Withdraw o) = plainHeld p (plainWithdraw p (recordNamed k o)) (of (recordNamed k o) (p .held))
+
+abbrev pub plainWrite : Plain → Writing → Option ℕ → PlainResult
+plainWrite p w none = plainRefuse p 16
+plainWrite p w (some k) = plainWriting p k w
 
 -- ---- calendars
 
@@ -321,6 +376,7 @@ plainSet p entries =
     record {
       state =
           record {
+            held = p .held;
             fresh = p .fresh;
             urgent = p .urgent;
             long = p .long;
@@ -339,6 +395,7 @@ plainSet p entries =
 abbrev pub plainStart : Start → Plain
 plainStart S =
     record {
+      held = [];
       fresh = [];
       urgent = [];
       long = [];
@@ -350,9 +407,9 @@ plainStart S =
       history = [];
     }
 
--- a call refused changes nothing: 16, 10, 9; 17, 11, 7; 20, 21. 14 and 18 never come
+-- a call refused changes nothing: 16, 10, 9 or 16, 22; 17, 11, 7; 20, 21. 14 and 18 never come
 abbrev pub plainCall : Start → Plain → Call → PlainResult
-plainCall S p (Offer x bytes) = plainOffer p bytes (stationFrom 0 (S .indexes) x)
+plainCall S p (Write x w) = plainWrite p w (stationFrom 0 (S .indexes) x)
 plainCall S p (Slot picks) =
     cond (eqb (length picks) (length (S .indexes)))
     (cond (inRange (S .m) picks) (cond (overflows (plainSettled p)) (plainRefuse p 7) (plainSlot S (λ k. getD picks k 1) p))

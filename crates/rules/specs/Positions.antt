@@ -1,6 +1,6 @@
 -- The condition of a message record as the plain channel shows it (paper 01, "Demand 3's list": "its condition its message's: fresh, asked,
--- or its position in its queue (a stretch: its segments there); free if none waits"; paper 02, T-04): a search of every queue. Records are
--- numbered as in specs/Messages. Assumes nothing.
+-- or its position in its queue (a stretch: its segments there); free if none waits"; paper 02, T-04 and T-06: held if it is kept apart): a
+-- search of all that is held and of every queue. Records are numbered as in specs/Messages. Assumes nothing.
 use mathlib.Core.List.{List, [], _∷_}
 use mathlib.Core.Option.{Option, none, some}
 use Prim.Native.Nat.{ℕ, zero, suc}
@@ -8,7 +8,7 @@ use lib.Dec.{eqb}
 use lib.ListN.{length}
 use Rattle.listlaws.specs.Lists.{onlyIf}
 use Rattle.rules.specs.Messages.{Message, Segment, recordOf, of, deliveredOf}
-use Rattle.rules.specs.StationLimits.{Condition, Free, Fresh, Asked, Resolving, Urgent, Long}
+use Rattle.rules.specs.StationLimits.{Condition, Free, Held, Fresh, Asked, Resolving, Urgent, Long}
 use Rattle.rules.specs.Calls.{Start}
 use Rattle.rules.specs.Plain.{Plain}
 
@@ -36,6 +36,10 @@ module _ {ℓ κ} {A : Type ℓ} {E : Type κ} (f : A → List E) where
 abbrev pub orElse : Option Condition → Condition → Condition
 orElse none c = c
 orElse (some d) c = d
+
+abbrev pub heldAt : List Message → Option Condition
+heldAt [] = none
+heldAt (m ∷ l) = some (Held (m .slots))
 
 abbrev pub freshAt : List Message → Option Condition
 freshAt [] = none
@@ -68,6 +72,7 @@ inGroups p k (suc g) =
 -- the condition of record k
 abbrev pub conditionOf : Start → Plain → ℕ → Condition
 conditionOf S p k =
-    orElse (freshAt (of k (p .fresh)))
+    orElse (heldAt (of k (p .held)))
+    (orElse (freshAt (of k (p .fresh)))
     (orElse (urgentAt (find (one k) (p .urgent) 1))
-    (orElse (longAt (length (deliveredOf k (p .long))) (find (part k) (p .long) 1)) (inGroups p k (S .n))))
+    (orElse (longAt (length (deliveredOf k (p .long))) (find (part k) (p .long) 1)) (inGroups p k (S .n)))))

@@ -1,15 +1,16 @@
 -- Step 4, data (DTR), and the transmission queues' part of step 5 (paper 01, "One slot of group g", 4 and 5;
--- paper 02, T-02). Assumes nothing.
+-- paper 02, T-02 and T-06). Assumes nothing.
 use mathlib.Core.Bool.{Bool, _&&_, cond}
 use Prim.Native.Nat.{ℕ, _-_}
 use lib.Dec.{eqb}
 use Rattle.rules.specs.Turns.{Turn, OwnedTurn, UrgentTurn, LongTurn, ResolveTurn, OpenTurn}
-use Rattle.rules.specs.StationLimits.{Condition, Free, Fresh, Asked, Resolving, Urgent, Long}
+use Rattle.rules.specs.StationLimits.{Condition, Free, Held, Fresh, Asked, Resolving, Urgent, Long}
 use Rattle.rules.specs.Requesting.{requests, totalOf}
 
 -- urgent: the station at H place 1 sends its one segment
 abbrev pub urgentSegment : Condition → ℕ
 urgentSegment Free = 0
+urgentSegment (Held t) = 0
 urgentSegment (Fresh t) = 0
 urgentSegment (Asked h j t) = 0
 urgentSegment (Resolving h i t) = 0
@@ -19,6 +20,7 @@ urgentSegment (Long f l t) = 0
 -- long: the station whose stretch begins at N place 1 sends its next segment, before which all but l are sent
 abbrev pub longSegment : Condition → ℕ
 longSegment Free = 0
+longSegment (Held t) = 0
 longSegment (Fresh t) = 0
 longSegment (Asked h j t) = 0
 longSegment (Resolving h i t) = 0
@@ -41,6 +43,7 @@ sends OpenTurn r g k = openSegment (requests r g k) (totalOf k)
 -- places in a queue that fell move down by 1; the one at place 1 of the urgent queue is done
 abbrev pub urgentMoves : Condition → Condition
 urgentMoves Free = Free
+urgentMoves (Held t) = Held t
 urgentMoves (Fresh t) = Fresh t
 urgentMoves (Asked h j t) = Asked h j t
 urgentMoves (Resolving h i t) = Resolving h i t
@@ -50,6 +53,7 @@ urgentMoves (Long f l t) = Long f l t
 -- the stretch that sent keeps place 1 with one slot fewer, and is done after its last
 abbrev pub longMoves : Condition → Condition
 longMoves Free = Free
+longMoves (Held t) = Held t
 longMoves (Fresh t) = Fresh t
 longMoves (Asked h j t) = Asked h j t
 longMoves (Resolving h i t) = Resolving h i t
@@ -63,9 +67,11 @@ moved LongTurn k = longMoves k
 moved ResolveTurn k = k
 moved OpenTurn k = k
 
--- the slots of a message that wait in a station (paper 01, "The channel": the waiting total)
+-- the slots of a message that wait in a station (paper 01, "The channel": the waiting total): none of one that is held, which joins the
+-- total at its commit
 abbrev pub waiting : Condition → ℕ
 waiting Free = 0
+waiting (Held t) = 0
 waiting (Fresh t) = t
 waiting (Asked h j t) = t
 waiting (Resolving h i t) = t

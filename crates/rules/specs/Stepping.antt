@@ -1,5 +1,5 @@
 -- One station's slot by the slot's outcome: all that a station does after the checks (paper 01, "One slot of group g", 1 and 3 to 5;
--- paper 02, T-04). Assumes nothing.
+-- paper 02, T-04 and T-06). Assumes nothing.
 use mathlib.Core.Bool.{Bool, true, false, _&&_, cond}
 use mathlib.Core.List.{List}
 use Prim.Native.Nat.{ℕ, _-_}
@@ -11,7 +11,7 @@ use Rattle.rules.specs.declared.Outcome.{Outcome}
 use Rattle.rules.specs.declared.Station.{Station}
 use Rattle.rules.specs.declared.StationSlot.{StationSlot}
 use Rattle.rules.specs.declared.SlotAnswer.the-variants.{Went}
-use Rattle.rules.specs.StationLimits.{Condition, Free, Fresh, Asked, Resolving, Urgent, Long}
+use Rattle.rules.specs.StationLimits.{Condition, Free, Held, Fresh, Asked, Resolving, Urgent, Long, holding}
 use Rattle.rules.specs.Landing.{Gone, at, stands}
 use Rattle.rules.specs.Requesting.{requests, requested, totalOf}
 use Rattle.rules.specs.Serving.{sends, moved}
@@ -19,6 +19,7 @@ use Rattle.rules.specs.Serving.{sends, moved}
 -- step 1: a message that asked in the slot's group g stands where its minislot lands it
 unfoldable pub settledIn : List Landed → ℕ → Condition → Condition
 settledIn landed g Free = Free
+settledIn landed g (Held t) = Held t
 settledIn landed g (Fresh t) = Fresh t
 settledIn landed g (Asked h j t) = cond (eqb h g) (stands g (getD landed (j - 1) (at Gone) .landing) t) (Asked h j t)
 settledIn landed g (Resolving h i t) = Resolving h i t
@@ -48,6 +49,7 @@ stays k = record { condition = k; minislot = 0; segment = 0 }
 
 abbrev pub isFresh : Condition → Bool
 isFresh Free = false
+isFresh (Held t) = false
 isFresh (Fresh t) = true
 isFresh (Asked h j t) = false
 isFresh (Resolving h i t) = false
@@ -76,12 +78,7 @@ withActed o s x y =
       answer = Went (o .turn) (asker x y .minislot) (sender x y .segment);
       request = requestTotal (asker x y);
       station =
-          record {
-            counters = o .counters;
-            index = s .index;
-            short = record { condition = x .condition };
-            long = record { condition = y .condition };
-          };
+          record { counters = o .counters; index = s .index; short = holding (x .condition); long = holding (y .condition) };
     }
 
 -- A STATION'S STEP

@@ -48,7 +48,8 @@ pub enum Turn {
     Open,
 }
 
-// Where a message stands (paper: the six conditions of a box).
+// Where a message stands (paper: the conditions of a box). A held one is kept for the automation: it neither asks nor sends until it is
+// committed.
 pub enum Condition {
     Free,
     Fresh { total: u8 },
@@ -56,6 +57,7 @@ pub enum Condition {
     Resolving { group: u8, place: u16, total: u8 },
     Urgent { place: u16 },
     Long { first: u16, left: u8, total: u8 },
+    Held { total: u8 },
 }
 
 // Where step 1 takes the message that asked in a minislot: nowhere (nobody asked there, or success was immediate), or to a new place of a
@@ -144,9 +146,24 @@ pub struct Listened {
     pub counters: Counters,
 }
 
-// The answer to offering a message: its slot total, or the number of the refusal.
-pub enum OfferAnswer {
-    Taken(u8),
+// One of a station's two message records.
+pub enum Which {
+    ShortOne,
+    LongOne,
+}
+
+// A call that writes one message record of one station. An offer and a hold have a message's bytes, and its length picks the record; a
+// commit and a withdrawal name the record.
+pub enum Writing {
+    Offer { bytes: usize },
+    Hold { bytes: usize },
+    Commit { which: Which },
+    Withdraw { which: Which },
+}
+
+// The answer to a writing: the message's slot total, or the number of the refusal.
+pub enum WriteAnswer {
+    Total(u8),
     Refused(u8),
 }
 
@@ -167,9 +184,9 @@ pub struct StationStarted {
     pub station: Station,
 }
 
-// Offering a message to a station: the answer, and the record after (as it was if refused).
-pub struct StationOffered {
-    pub answer: OfferAnswer,
+// Writing a message record of a station: the answer, and the record after (as it was if refused).
+pub struct StationWritten {
+    pub answer: WriteAnswer,
     pub station: Station,
 }
 
@@ -207,12 +224,15 @@ pub struct Sent {
     pub segment: u8,
 }
 
-// The answer to a call on a channel: the number of the refusal; an offer's slot total; nothing more where a calendar was set; a slot's
-// turn, its number of data senders, the index and segment of a lone sender (0 and 0 if there isn't just one), and the slots delivered in
-// the call.
+// The answer to a call on a channel: the number of the refusal; the slot total of a message that was offered, held, committed or
+// withdrawn; nothing more where a calendar was set; a slot's turn, its number of data senders, the index and segment of a lone sender (0
+// and 0 if there isn't just one), and the slots delivered in the call.
 pub enum Answer {
     Refused(u8),
     Taken(u8),
+    OnHold(u8),
+    Committed(u8),
+    Withdrawn(u8),
     Set,
     Went {
         turn: Turn,

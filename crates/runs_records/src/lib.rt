@@ -3,9 +3,11 @@
 //
 // A record's numbers are m, n, the next group, H, N, eight RQ, eight Open marks (1 for yes), the index, and then the condition of the
 // short message and that of the long one, four numbers each, 0 where there is nothing to say: 1 free; 2 fresh and its total; 3 asked,
-// group, minislot, total; 4 resolving, group, place, total; 5 urgent and its place; 6 long, first, left, total. Calendar and position are
-// not among them: `position,P owned`, with a pair such as `,5:7` for each position that has an owner, is written where they are asked
-// for.
+// group, minislot, total; 4 resolving, group, place, total; 5 urgent and its place; 6 long, first, left, total; 7 held and its total.
+// Calendar and position are not among them: `position,P owned`, with a pair such as `,5:7` for each position that has an owner, is written
+// where they are asked for.
+//
+// The calls that write a message record go by numbers too: 1 an offer, 2 a hold, 3 a commit, 4 a withdrawal.
 use calendars::FREE;
 use rules::Answer;
 use rules::CalendarAnswer;
@@ -15,7 +17,9 @@ use rules::MessageRecord;
 use rules::StartAnswer;
 use rules::Station;
 use rules::Turn;
+use rules::Which;
 use rules::WireRow;
+use rules::Writing;
 use runs_cases::Group;
 use runs_cases::group_at;
 use runs_cases::number;
@@ -50,6 +54,7 @@ fn message_numbers(m: MessageRecord) -> [u64; 4] {
         } => [4, group as u64, place as u64, total as u64],
         Condition::Urgent { place } => [5, place as u64, 0, 0],
         Condition::Long { first, left, total } => [6, first as u64, left as u64, total as u64],
+        Condition::Held { total } => [7, total as u64, 0, 0],
     }
 }
 
@@ -122,7 +127,7 @@ pub fn record_line(s: Station) {
     let all = record_numbers(s);
     worded(
         b"record,#,#,#,#,#,#,#,#,#,#,#,#,#,?,?,?,?,?,?,?,?,#,@,#,#,#,@,#,#,#\n",
-        b"free fresh asked resolving urgent long ",
+        b"free fresh asked resolving urgent long held ",
         &all,
     );
 }
@@ -132,10 +137,10 @@ pub fn refused_line(number: u8) {
     form(b"refused,#\n", &numbers);
 }
 
-// A message that was taken, with its slots.
-pub fn taken_line(total: u8) {
-    let numbers = [total as u64];
-    form(b"taken,#\n", &numbers);
+// What a call that writes a message record, by its number, answers if it goes through: the slots of the message.
+pub fn total_line(call: u64, total: u8) {
+    let numbers = [call, total as u64];
+    worded(b"@,#\n", b"taken held committed withdrawn ", &numbers);
 }
 
 // The answer to a start.
@@ -180,7 +185,10 @@ pub fn set_line(answer: CalendarAnswer) {
 pub fn answer_line(answer: Answer) {
     match answer {
         Answer::Refused(number) => refused_line(number),
-        Answer::Taken(total) => taken_line(total),
+        Answer::Taken(total) => total_line(1, total),
+        Answer::OnHold(total) => total_line(2, total),
+        Answer::Committed(total) => total_line(3, total),
+        Answer::Withdrawn(total) => total_line(4, total),
         Answer::Set => text(b"set\n"),
         Answer::Went {
             turn,
@@ -285,13 +293,14 @@ fn condition(number: u64, g: Group) -> Condition {
             left: second,
             total,
         },
+        7 => Condition::Held { total: first },
         _ => Condition::Free,
     }
 }
 
 // The message whose condition stands at a place of a line.
 fn message_of(line: &[u8], at: usize) -> MessageRecord {
-    let number = which(line, at, b"free fresh asked resolving urgent long ");
+    let number = which(line, at, b"free fresh asked resolving urgent long held ");
     MessageRecord {
         condition: condition(number, group_at(line, at)),
     }
@@ -306,5 +315,29 @@ pub fn station_of(counters: Counters, index: u16, line: &[u8], at: usize) -> Sta
         index,
         short: message_of(line, at),
         long: message_of(line, second),
+    }
+}
+
+// The record that a number names: 1 the short one, any other the long one.
+fn named(number: u64) -> Which {
+    match number {
+        1 => Which::ShortOne,
+        _ => Which::LongOne,
+    }
+}
+
+// What a call that writes a message record asks for, by its number: an offer or a hold of so many bytes; a commit or a withdrawal of the
+// record that is named.
+pub fn writing(call: u64, number: u64) -> Writing {
+    let bytes = number as usize;
+    match call {
+        1 => Writing::Offer { bytes },
+        2 => Writing::Hold { bytes },
+        3 => Writing::Commit {
+            which: named(number),
+        },
+        _ => Writing::Withdraw {
+            which: named(number),
+        },
     }
 }

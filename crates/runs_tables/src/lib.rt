@@ -6,6 +6,7 @@ use minislot::Minislot;
 use rehearsing::blank;
 use rules::Station;
 use rules::WireRow;
+use rules::Writing;
 ghost use Prim.Native.Nat.{_≤_};
 
 pub fn least(a: usize, b: usize) -> usize
@@ -66,14 +67,18 @@ pub fn started(count: usize, m: u8, n: u8, first: u8) -> LocalChannel {
     r.channel
 }
 
-// The next four say nothing of the answer, so that a program that only runs them carries no contract of a channel along.
+// The next five say nothing of the answer, so that a program that only runs them carries no contract of a channel along.
 
 pub fn begun(c: LocalChannel, m: u8, n: u8, indexes: &[u16]) -> LocalStarted {
     local_channel::start(c, m, n, indexes)
 }
 
+pub fn written(c: LocalChannel, index: u16, w: Writing) -> LocalCalled {
+    local_channel::write(c, index, w)
+}
+
 pub fn offered(c: LocalChannel, index: u16, bytes: usize) -> LocalCalled {
-    local_channel::offer(c, index, bytes)
+    local_channel::write(c, index, Writing::Offer { bytes })
 }
 
 pub fn calendared(c: LocalChannel, entries: [u16; 24]) -> LocalCalled {

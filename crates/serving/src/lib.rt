@@ -20,6 +20,7 @@ pub fn waiting(k: Condition) -> u8
         Condition::Resolving { total, .. } => total,
         Condition::Urgent { .. } => 1,
         Condition::Long { left, .. } => left,
+        Condition::Held { .. } => 0,
     }
 }
 
@@ -33,6 +34,7 @@ fn urgent_segment(k: Condition) -> u8
         Condition::Resolving { .. } => 0,
         Condition::Urgent { place } => if place == 1 { 1 } else { 0 },
         Condition::Long { .. } => 0,
+        Condition::Held { .. } => 0,
     }
 }
 
@@ -58,6 +60,7 @@ fn long_segment(k: Condition) -> u8
         } else {
             0
         },
+        Condition::Held { .. } => 0,
     }
 }
 

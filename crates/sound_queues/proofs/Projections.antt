@@ -3,7 +3,7 @@ use mathlib.Core.Path.{_≡_, refl}
 use mathlib.Core.List.{[], _∷_, map}
 use Rattle.listlaws.specs.Lists.{onlyIf}
 use Rattle.rules.specs.declared.Condition.{Condition}
-use Rattle.rules.specs.declared.Condition.the-variants.{Free, Fresh, Asked, Resolving, Urgent, Long}
+use Rattle.rules.specs.declared.Condition.the-variants.{Free, Held, Fresh, Asked, Resolving, Urgent, Long}
 use Rattle.channel_rules.specs.Soundness.{urgentPlace, longStretch}
 use Rattle.sound_queues.specs.declared.urgent.FoundPlace.{FoundPlace}
 use Rattle.sound_queues.specs.declared.long.FoundStretch.{FoundStretch}
@@ -13,6 +13,7 @@ use Rattle.sound_queues.specs.Queues.{urgentFound, longFound, firstIn, l
 
 found : (k : Condition) → urgentPlace k ≡ onlyIf (urgentFound k .found) (urgentFound k .place ∷ [])
 found Free = refl
+found (Held t) = refl
 found (Fresh t) = refl
 found (Asked g j t) = refl
 found (Resolving g i t) = refl
@@ -26,6 +27,7 @@ urgent-found k r e = rw e (found k)
 
 reach-first : (k : Condition) → map firstIn (longStretch k) ≡ onlyIf (longFound k .found) (longFound k .first ∷ [])
 reach-first Free = refl
+reach-first (Held t) = refl
 reach-first (Fresh t) = refl
 reach-first (Asked g j t) = refl
 reach-first (Resolving g i t) = refl
@@ -34,6 +36,7 @@ reach-first (Long f l t) = refl
 
 reach-left : (k : Condition) → map leftIn (longStretch k) ≡ onlyIf (longFound k .found) (longFound k .left ∷ [])
 reach-left Free = refl
+reach-left (Held t) = refl
 reach-left (Fresh t) = refl
 reach-left (Asked g j t) = refl
 reach-left (Resolving g i t) = refl

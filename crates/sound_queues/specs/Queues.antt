@@ -6,7 +6,7 @@ use lib.ListN.{length}
 use Rattle.listlaws.specs.Lists.{padded}
 use Rattle.stretches.specs.declared.Stretch.{Stretch}
 use Rattle.rules.specs.declared.Condition.{Condition}
-use Rattle.rules.specs.declared.Condition.the-variants.{Free, Fresh, Asked, Resolving, Urgent, Long}
+use Rattle.rules.specs.declared.Condition.the-variants.{Free, Held, Fresh, Asked, Resolving, Urgent, Long}
 use Rattle.sound_queues.specs.declared.urgent.FoundPlace.{FoundPlace}
 use Rattle.sound_queues.specs.declared.long.FoundStretch.{FoundStretch}
 use Rattle.sound_queues.specs.declared.long.DrawnStretches.{DrawnStretches}
@@ -18,6 +18,7 @@ notUrgent = record { found = false; place = 0 }
 
 abbrev pub urgentFound : Condition → FoundPlace
 urgentFound Free = notUrgent
+urgentFound (Held t) = notUrgent
 urgentFound (Fresh t) = notUrgent
 urgentFound (Asked g j t) = notUrgent
 urgentFound (Resolving g i t) = notUrgent
@@ -31,6 +32,7 @@ notLong = record { found = false; first = 0; left = 0 }
 
 abbrev pub longFound : Condition → FoundStretch
 longFound Free = notLong
+longFound (Held t) = notLong
 longFound (Fresh t) = notLong
 longFound (Asked g j t) = notLong
 longFound (Resolving g i t) = notLong

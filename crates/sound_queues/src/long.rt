@@ -45,6 +45,7 @@ fn long_stretch(condition: Condition) -> FoundStretch
             first,
             left,
         },
+        Condition::Held { .. } => NOT_LONG,
     }
 }
 

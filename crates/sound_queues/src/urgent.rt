@@ -34,6 +34,7 @@ fn urgent_place(condition: Condition) -> FoundPlace
         Condition::Resolving { .. } => NOT_URGENT,
         Condition::Urgent { place } => FoundPlace { found: true, place },
         Condition::Long { .. } => NOT_URGENT,
+        Condition::Held { .. } => NOT_URGENT,
     }
 }
 

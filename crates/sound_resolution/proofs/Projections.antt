@@ -7,13 +7,14 @@ use lib.Dec.{eqb}
 use Rattle.listlaws.specs.Lists.{gatherOf, onlyIf}
 use Rattle.listlaws.proofs.Joining.{gather-append}
 use Rattle.rules.specs.declared.Condition.{Condition}
-use Rattle.rules.specs.declared.Condition.the-variants.{Free, Fresh, Asked, Resolving, Urgent, Long}
+use Rattle.rules.specs.declared.Condition.the-variants.{Free, Held, Fresh, Asked, Resolving, Urgent, Long}
 use Rattle.rules.specs.declared.TableMessage.{TableMessage}
 use Rattle.channel_rules.specs.Soundness.{resolvingPlace, resolvingPlaces}
 use Rattle.sound_resolution.specs.Resolution.{groupPlaceIn, groupPlacesOf, placeIn}
 
 group-place : (g : ℕ) (k : Condition) → gatherOf (placeIn g) (groupPlaceIn (record { index = 0; condition = k })) ≡ resolvingPlace g k
 group-place g Free = refl
+group-place g (Held t) = refl
 group-place g (Fresh t) = refl
 group-place g (Asked h j t) = refl
 group-place g (Resolving h i t) = append-nil (onlyIf (eqb h g) (i ∷ []))

@@ -9,7 +9,7 @@ use Rattle.listlaws.specs.Lists.{gatherOf, onlyIf, padded}
 use Rattle.crowds.specs.Crowds.{crowded}
 use Rattle.rules.specs.declared.TableMessage.{TableMessage}
 use Rattle.rules.specs.declared.Condition.{Condition}
-use Rattle.rules.specs.declared.Condition.the-variants.{Free, Fresh, Asked, Resolving, Urgent, Long}
+use Rattle.rules.specs.declared.Condition.the-variants.{Free, Held, Fresh, Asked, Resolving, Urgent, Long}
 use Rattle.channel_rules.specs.Soundness.{resolvingPlaces}
 use Rattle.sound_resolution.specs.declared.GroupPlace.{GroupPlace}
 use Rattle.sound_resolution.specs.declared.FoundGroupPlace.{FoundGroupPlace}
@@ -23,6 +23,7 @@ notResolving = record { found = false; at = noGroupPlace }
 
 abbrev pub resolvingFound : Condition → FoundGroupPlace
 resolvingFound Free = notResolving
+resolvingFound (Held t) = notResolving
 resolvingFound (Fresh t) = notResolving
 resolvingFound (Asked g j t) = notResolving
 resolvingFound (Resolving g i t) = record { found = true; at = record { group = g; place = i } }

@@ -53,6 +53,7 @@ fn resolving_place(condition: Condition) -> FoundGroupPlace
         },
         Condition::Urgent { .. } => NOT_RESOLVING,
         Condition::Long { .. } => NOT_RESOLVING,
+        Condition::Held { .. } => NOT_RESOLVING,
     }
 }
 

@@ -26,7 +26,7 @@ use Rattle.rules.specs.Limits.{between, withinLimits}
 use Rattle.rules.specs.Hearing.{wordsOf, countsOf}
 use Rattle.rules.specs.Queueing.{placesAfter, passes}
 use Rattle.rules.specs.declared.Condition.{Condition}
-use Rattle.rules.specs.declared.Condition.the-variants.{Free, Fresh, Asked, Resolving, Urgent, Long}
+use Rattle.rules.specs.declared.Condition.the-variants.{Free, Held, Fresh, Asked, Resolving, Urgent, Long}
 use Rattle.rules.specs.StationLimits.{conditionWithin, recordsApart, stationWithin, isTotal}
 use Rattle.rules.specs.Messages.{shortRecord, longRecord}
 use Rattle.rules.specs.OwnHearing.{ownMinislot, hearsOf, hearsItself}
@@ -56,6 +56,7 @@ use Rattle.rules.proofs.LimitLaws.{Within, within-limits, arrays-lengths, betwe
 asks-one-within : (c : Counters) (g j k : ℕ) (x : Condition) → conditionWithin c x ≡ true → AsksOne g j k x
 unfolding conditionWithin
 asks-one-within c g j k Free e = inl refl
+asks-one-within c g j k (Held t) e = inl refl
 asks-one-within c g j k (Fresh t) e = inl refl
 asks-one-within c g j k (Asked h i t) e = go (eqb h g) (eqb i j)
   where

@@ -21,7 +21,7 @@ use Rattle.rules.specs.Limits.{between, urgentLimit, longLimit, resolutionLimit
 use Rattle.rules.specs.Queueing.{placesOf, immediateOf, placesAfter, passes, stepOneOf}
 use Rattle.rules.specs.RowCounts.{shortSingles, longSlots, collides}
 use Rattle.rules.specs.declared.Condition.{Condition}
-use Rattle.rules.specs.declared.Condition.the-variants.{Free, Fresh, Asked, Resolving, Urgent, Long}
+use Rattle.rules.specs.declared.Condition.the-variants.{Free, Held, Fresh, Asked, Resolving, Urgent, Long}
 use Rattle.rules.specs.StationLimits.{resolutionAt, conditionWithin, shortWithin, longWithin, isTotal}
 use Rattle.rules.specs.Messages.{shortRecord, longRecord}
 use Rattle.stretches.specs.declared.Stretch.{Stretch}
@@ -59,6 +59,7 @@ module _ {A B : Type 0} (f : A → List B) (one : (x : A) → length (f x) ≤ 1
 
 urgent-one : (k : Condition) → length (urgentPlace k) ≤ 1
 urgent-one Free = omega arith
+urgent-one (Held t) = omega arith
 urgent-one (Fresh t) = omega arith
 urgent-one (Asked g j t) = omega arith
 urgent-one (Resolving g i t) = omega arith
@@ -67,6 +68,7 @@ urgent-one (Long f l t) = omega arith
 
 resolving-one : (g : ℕ) (k : Condition) → length (resolvingPlace g k) ≤ 1
 resolving-one g Free = omega arith
+resolving-one g (Held t) = omega arith
 resolving-one g (Fresh t) = omega arith
 resolving-one g (Asked h j t) = omega arith
 resolving-one g (Resolving h i t) = go (eqb h g)
@@ -81,6 +83,7 @@ resolving-one g (Long f l t) = omega arith
 short-none : (k : Condition) → shortWithin k ≡ true → longStretch k ≡ []
 unfolding shortWithin
 short-none Free e = refl
+short-none (Held t) e = refl
 short-none (Fresh t) e = refl
 short-none (Asked g j t) e = refl
 short-none (Resolving g i t) e = refl
@@ -90,6 +93,7 @@ short-none (Long f l t) e = absurd (no-true e)
 long-none : (k : Condition) → longWithin k ≡ true → urgentPlace k ≡ []
 unfolding longWithin
 long-none Free e = refl
+long-none (Held t) e = refl
 long-none (Fresh t) e = refl
 long-none (Asked g j t) e = refl
 long-none (Resolving g i t) e = refl
@@ -99,6 +103,7 @@ long-none (Long f l t) e = refl
 -- the slots left of a station within its limits, and of all of them
 left-most : (c : Counters) (k : Condition) → conditionWithin c k ≡ true → sumOf (λ (s : Stretch). s .left) (longStretch k) ≤ 255
 left-most c Free e = omega arith
+left-most c (Held t) e = omega arith
 left-most c (Fresh t) e = omega arith
 left-most c (Asked g j t) e = omega arith
 left-most c (Resolving g i t) e = omega arith
@@ -144,6 +149,7 @@ sent l = sumOf (λ (s : Sender). s .value) l
 asked-most : (c : Counters) (g j k : ℕ) (x : Condition) → conditionWithin c x ≡ true → sent (askedSender g j k x) ≤ 255 * length (askedSender g j k x)
 unfolding conditionWithin
 asked-most c g j k Free e = omega arith
+asked-most c g j k (Held t) e = omega arith
 asked-most c g j k (Fresh t) e = omega arith
 asked-most c g j k (Asked h i t) e = go (eqb h g) (eqb i j)
   where

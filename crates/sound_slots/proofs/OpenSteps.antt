@@ -16,7 +16,7 @@ use Rattle.rules.specs.declared.Station.{Station}
 use Rattle.rules.specs.declared.StationSlot.{StationSlot}
 use Rattle.rules.specs.declared.SlotAnswer.the-variants.{Went as WentSlot}
 use Rattle.rules.specs.declared.Condition.{Condition}
-use Rattle.rules.specs.declared.Condition.the-variants.{Free, Fresh, Asked, Resolving, Urgent, Long}
+use Rattle.rules.specs.declared.Condition.the-variants.{Free, Held, Fresh, Asked, Resolving, Urgent, Long}
 use Rattle.rules.specs.declared.Landing.{Landing}
 use Rattle.rules.specs.declared.Landing.the-variants.{Gone, ToUrgent, ToLong, ToResolution}
 use Rattle.rules.specs.declared.Turn.the-variants.{Urgent as UrgentTurn, Long as LongTurn, Resolve as ResolveTurn, Open as OpenTurn}
@@ -64,6 +64,7 @@ module _ (o : Outcome) (opening : o .turn ≡ OpenTurn) (none-left : o .resoluti
   acts-other : (k : Condition) → isFresh k ≡ false → (pick : ℕ) → Idle (actsOf o k pick)
   unfolding actsOf settledIn requests sends
   acts-other Free e pick = record { minislot = refl; segment = rw opening }
+  acts-other (Held t) e pick = record { minislot = refl; segment = rw opening }
   acts-other (Fresh t) e pick = absurd (false≢true (sym e))
   acts-other (Asked h j t) e pick = go (eqb h (o .group)) (getD (o .landed) (j - 1) (at Gone) .landing)
     where
@@ -118,6 +119,7 @@ module _ (o : Outcome) (opening : o .turn ≡ OpenTurn) (none-left : o .resoluti
   unfolding actsBeside
   long-opens s pick lo a (Fresh t) e = rw e (asks-second s t pick (actsOf o a pick) lo (acts-other a e pick))
   long-opens s pick lo a Free e = rw e (asks-not s pick _ _ (acts-other a e pick) (acts-other Free refl pick))
+  long-opens s pick lo a (Held t) e = rw e (asks-not s pick _ _ (acts-other a e pick) (acts-other (Held t) refl pick))
   long-opens s pick lo a (Asked h j t) e = rw e (asks-not s pick _ _ (acts-other a e pick) (acts-other (Asked h j t) refl pick))
   long-opens s pick lo a (Resolving h i t) e = rw e (asks-not s pick _ _ (acts-other a e pick) (acts-other (Resolving h i t) refl pick))
   long-opens s pick lo a (Urgent i) e = rw e (asks-not s pick _ _ (acts-other a e pick) (acts-other (Urgent i) refl pick))
@@ -129,6 +131,7 @@ module _ (o : Outcome) (opening : o .turn ≡ OpenTurn) (none-left : o .resoluti
     where
       go : (a : Condition) → Opens s pick (withActed o s (actsOf o a pick) (actsBeside o a (s .long .condition) pick))
       go Free = long-opens s pick lo Free (s .long .condition) refl
+      go (Held t) = long-opens s pick lo (Held t) (s .long .condition) refl
       go (Fresh t) = asks-first s t pick (actsBeside o (Fresh t) (s .long .condition) pick) lo (beside-other (Fresh t) (s .long .condition) refl pick)
       go (Asked h j t) = long-opens s pick lo (Asked h j t) (s .long .condition) refl
       go (Resolving h i t) = long-opens s pick lo (Resolving h i t) (s .long .condition) refl

@@ -34,7 +34,7 @@ use Rattle.rules.specs.declared.Turn.the-variants.{Owned as OwnedTurn, Urgent a
 use Rattle.rules.specs.Turns.{turnOf}
 use Rattle.rules.specs.Listening.{hasRow}
 use Rattle.rules.specs.declared.Condition.{Condition}
-use Rattle.rules.specs.declared.Condition.the-variants.{Free, Fresh, Asked, Resolving, Urgent, Long}
+use Rattle.rules.specs.declared.Condition.the-variants.{Free, Held, Fresh, Asked, Resolving, Urgent, Long}
 use Rattle.rules.specs.StationLimits.{isTotal, conditionWithin, stationWithin}
 use Rattle.rules.specs.Calendars.{ownerOf}
 use Rattle.rules.specs.Requesting.{waitsIn, requests, requested, totalOf}
@@ -61,6 +61,7 @@ use Rattle.rules.proofs.Walking.{row-fits}
 total-kept : (turn : Turn) (r g pick : ℕ) (c : Condition) → requests r g c ≡ true → totalOf (moved turn (requested r g pick c)) ≡ totalOf c
 unfolding requests requested moved
 total-kept turn r g pick Free e = cc
+total-kept turn r g pick (Held t) e = cc
 total-kept turn r g pick (Fresh t) e = rw e (go turn)
   where
     go : (turn : Turn) → totalOf (moved turn (Asked g pick t)) ≡ t
@@ -100,6 +101,7 @@ settled-total : (c : Counters) (r g : ℕ) (b : Bool) (p : Places) (row : List F
     → requests r g (settledBy b g p row k) ≡ true → 1 ≤ totalOf (settledBy b g p row k)
 unfolding requests settledBy conditionWithin
 settled-total c r g b p row Free w e = absurd (false≢true e)
+settled-total c r g b p row (Held t) w e = absurd (false≢true e)
 settled-total c r g b p row (Fresh t) w e = some-total t w
 settled-total c r g b p row (Asked h j t) w e = go (eqb h g) e
   where

@@ -1,26 +1,28 @@
-// The station (paper: box), by value: its start, an offer of a message, and setting its calendar.
+// The station (paper: box), by value: its start, the calls that write one of its message records, and setting its calendar.
 use calendars::calendar_on;
 use calendars::entries_number;
 use conditions::is_index;
 use conditions::no_station;
 use conditions::within;
 use counters::in_ranges;
+use rewriting::rewrite;
 use rules::CalendarAnswer;
 use rules::Condition;
 use rules::MessageRecord;
-use rules::OfferAnswer;
 use rules::StartAnswer;
 use rules::Station;
-use rules::StationOffered;
 use rules::StationSet;
 use rules::StationStarted;
-use taking::taking;
-use taking::with_condition;
+use rules::StationWritten;
+use rules::WriteAnswer;
+use rules::Writing;
+use verdicts::judge;
 ghost use mathlib.Core.Path.{_≡_};
-ghost use Rattle.rules.specs.StationCalls.{stationStartOf, offerOf, refusedStart, refusedOffer};
+ghost use Rattle.rules.specs.StationCalls.{stationStartOf, refusedStart};
+ghost use Rattle.rules.specs.Writing.{refusedWrite, writeOf};
 ghost use Rattle.rules.specs.Settings.{stationCalendarOf, refusedSetting};
-ghost use Rattle.rules.specs.Numbers.{startTold, offerTold, calendarTold};
-ghost use Rattle.rules.specs.Answered.{stationStartToldOf, offerToldOf, stationCalendarToldOf};
+ghost use Rattle.rules.specs.Numbers.{startTold, writeTold, calendarTold};
+ghost use Rattle.rules.specs.Answered.{stationStartToldOf, writeToldOf, stationCalendarToldOf};
 
 // ---- starting
 
@@ -59,35 +61,36 @@ pub fn start(m: u8, n: u8, index: u16) -> StationStarted
     refused_start(5)
 }
 
-// ---- offering
+// ---- writing one of its message records
 
-fn refused_offer(s: Station, number: u8) -> StationOffered
-    ensures { λ r. ⌜ r ≡ refusedOffer s number ⌝ }
+fn refused_write(s: Station, number: u8) -> StationWritten
+    ensures { λ r. ⌜ r ≡ refusedWrite s number ⌝ }
 {
-    StationOffered {
-        answer: OfferAnswer::Refused(number),
+    StationWritten {
+        answer: WriteAnswer::Refused(number),
         station: s,
     }
 }
 
-// Offers a station a message of this many bytes. 18: the record is outside its limits. 10: 0 bytes or more than 12,240. 9: the message
-// record that the length picks, up to 48 bytes the short one, is in use. A refusal leaves the record as it was.
-pub fn offer(s: Station, bytes: usize) -> StationOffered
-    ensures left { λ r. ⌜ r ≡ offerOf s bytes ⌝ }
-    ensures told { λ r. ⌜ offerTold (r .answer) ≡ offerToldOf s bytes ⌝ }
+// An offer, a hold, a commit or a withdrawal of a station. 18: the record is outside its limits. An offer and a hold: 10, 0 bytes or more
+// than 12,240; 9, the message record that the length picks, up to 48 bytes the short one, is in use. A commit and a withdrawal: 22, the
+// message record that is named isn't held. A refusal leaves the record as it was.
+pub fn write(s: Station, w: Writing) -> StationWritten
+    ensures left { λ r. ⌜ r ≡ writeOf s w ⌝ }
+    ensures told { λ r. ⌜ writeTold (r .answer) ≡ writeToldOf s w ⌝ }
 {
     if within(s) {
-        let taken = taking(s, bytes);
-        let total = taken.total;
-        if taken.number != 0 {
-            return refused_offer(s, taken.number);
+        let verdict = judge(s, w);
+        let total = verdict.total;
+        if verdict.number != 0 {
+            return refused_write(s, verdict.number);
         }
-        return StationOffered {
-            answer: OfferAnswer::Taken(total),
-            station: with_condition(s, bytes, Condition::Fresh { total }),
+        return StationWritten {
+            answer: WriteAnswer::Total(total),
+            station: rewrite(s, w, total),
         };
     }
-    refused_offer(s, 18)
+    refused_write(s, 18)
 }
 
 // ---- setting its calendar

@@ -2,7 +2,7 @@
 -- declaration, of an array of its element's. It says nothing of the crate.
 --     Kind             of one type
 --     ty, vals         the MIR type of a local that holds it;  its machine values, which are one
---     of-struct        from a struct's `the-type`, `the-laws`, `the-plain` and `the-copy`.        of-array, of-uint, of-unit
+--     of-struct        from a struct's `the-type`, `the-laws`, `the-plain` and `the-copy`.        of-enum the same of an enum.        of-array, of-uint, of-unit
 -- Assumes nothing; `makes`, `copies`, `lawful` and `typed` assume `Given`.
 use Prim.Native.Nat.{ℕ}
 use mathlib.Core.List.{List, [], _∷_, map}
@@ -22,6 +22,9 @@ use denote.ArrayMemory.{Single}
 use denote.Struct.Struct.{Plains}
 use denote.Struct.Declared.{Declared, fields, row}
 use denote.Struct.Laws as LL
+use denote.Enum.Enum.{Few, Plainss}
+use denote.Enum.Declared as ED
+use denote.Enum.Laws as EL
 
 pub record Kind : Type 2 where
   pub R : RattleType
@@ -52,6 +55,21 @@ module _ (T : Declared) (L : LL.Laws T) (pl : Plains (fields T)) (cs : LL.Copyab
     copies = λ 𝓤 H A W. LL.copy T cs 𝓤 H A W;
     lawful = λ 𝓤 H A W. LL.lawful T L 𝓤 H A W;
     typed = λ 𝓤 H A W d v g. LL.lawful T L 𝓤 H A W .typed d (v ∷ []) g .0;
+  }
+
+-- ---- an enum
+
+module _ (T : ED.Declared) (L : EL.Laws T) (pl : Plainss (ED.variants T)) (cs : EL.Copyabless (T .parts)) (few : Few (ED.shape T)) where
+  abbrev pub of-enum : Kind
+  of-enum = record {
+    R = ED.row T;
+    one = tt;
+    val = EL.val T L;
+    tells = EL.tells T L;
+    makes = λ 𝓤 H A W. EL.makes T pl 𝓤 H A;
+    copies = λ 𝓤 H A W. EL.copy T cs 𝓤 H A W;
+    lawful = λ 𝓤 H A W. EL.lawful T L 𝓤 H A W few;
+    typed = λ 𝓤 H A W d v g. EL.lawful T L 𝓤 H A W few .typed d (v ∷ []) g .0;
   }
 
 -- ---- an array

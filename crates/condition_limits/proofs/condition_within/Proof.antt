@@ -46,6 +46,9 @@ enum-known-k-5 c = search needs
 stretch-within-requires : tie.Need-stretch-within-requires
 stretch-within-requires c κs = search needs
 
+enum-known-k-6 : tie.Need-enum-known-k-6
+enum-known-k-6 c = search needs
+
 returns : tie.Need-returns
 unfolding conditionWithin
 returns c = rw (c .enum-told .given .1)
@@ -70,6 +73,10 @@ returns-6 : tie.Need-returns-6
 unfolding conditionWithin
 returns-6 c = rw (c .before .before .k5 .given .1) (c .stretch-within .ensures)
 
+returns-7 : tie.Need-returns-7
+unfolding conditionWithin
+returns-7 c = rw (c .before .k6 .given .1, le-leb (c .before .k6 .given .0 .0) 255 (omega arith), and-true)
+
 pub condition-within-spec : {M : Type 1} → statement M
 condition-within-spec =
     tie.close
@@ -87,9 +94,11 @@ condition-within-spec =
     urgent-within-requires
     enum-known-k-5
     stretch-within-requires
+    enum-known-k-6
     returns
     returns-2
     returns-3
     returns-4
     returns-5
-    returns-6)
+    returns-6
+    returns-7)

@@ -31,6 +31,9 @@ enum-told-4 c = search needs
 serves-long-requires : tie.Need-serves-long-requires
 serves-long-requires c κs = search needs
 
+enum-told-5 : tie.Need-enum-told-5
+enum-told-5 c = search needs
+
 returns : tie.Need-returns
 unfolding idleIn
 returns c = rw (c .enum-told .given .1)
@@ -59,6 +62,10 @@ returns-7 : tie.Need-returns-7
 unfolding idleIn
 returns-7 c = rw (c .before .enum-told4 .given .1) (ap not (c .serves-long .ensures))
 
+returns-8 : tie.Need-returns-8
+unfolding idleIn
+returns-8 c = rw (c .enum-told5 .given .1)
+
 pub idle-spec : {M : Type 1} → statement M
 idle-spec =
     tie.close
@@ -71,10 +78,12 @@ idle-spec =
     serves-urgent-requires
     enum-told-4
     serves-long-requires
+    enum-told-5
     returns
     returns-2
     returns-3
     returns-4
     returns-5
     returns-6
-    returns-7)
+    returns-7
+    returns-8)

@@ -39,6 +39,12 @@ enum-known-condition-5 c = search needs
 put-long-requires : tie.Need-put-long-requires
 put-long-requires c κs = search needs
 
+enum-known-condition-6 : tie.Need-enum-known-condition-6
+enum-known-condition-6 c = search needs
+
+put-held-requires : tie.Need-put-held-requires
+put-held-requires c κs = search needs
+
 same-length : tie.Need-same-length
 same-length c = search needs
 
@@ -75,6 +81,12 @@ same-length-6 c = search needs
 returns-6 : tie.Need-returns-6
 returns-6 c = rw (c .before .before .before .before .before .condition5 .given .1) (c .before .before .put-long .ensures)
 
+same-length-7 : tie.Need-same-length-7
+same-length-7 c = search needs
+
+returns-7 : tie.Need-returns-7
+returns-7 c = rw (c .before .before .before .before .before .condition6 .given .1) (c .before .before .put-held .ensures)
+
 pub put-message-spec : {M : Type 1} → statement M
 put-message-spec =
     tie.close
@@ -91,6 +103,8 @@ put-message-spec =
     put-urgent-requires
     enum-known-condition-5
     put-long-requires
+    enum-known-condition-6
+    put-held-requires
     same-length
     returns
     same-length-2
@@ -102,4 +116,6 @@ put-message-spec =
     same-length-5
     returns-5
     same-length-6
-    returns-6)
+    returns-6
+    same-length-7
+    returns-7)

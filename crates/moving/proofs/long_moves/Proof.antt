@@ -24,6 +24,9 @@ enum-known-k c = search needs
 stretch-moves-requires : tie.Need-stretch-moves-requires
 stretch-moves-requires c κs = search needs
 
+enum-told-6 : tie.Need-enum-told-6
+enum-told-6 c = search needs
+
 returns : tie.Need-returns
 returns c = search needs
 
@@ -42,6 +45,9 @@ returns-5 c = search needs
 returns-6 : tie.Need-returns-6
 returns-6 c = rw (c .before .before .k .given .1) (c .stretch-moves .ensures)
 
+returns-7 : tie.Need-returns-7
+returns-7 c = search needs
+
 pub long-moves-spec : {M : Type 1} → statement M
 long-moves-spec =
     tie.close
@@ -53,9 +59,11 @@ long-moves-spec =
     enum-told-5
     enum-known-k
     stretch-moves-requires
+    enum-told-6
     returns
     returns-2
     returns-3
     returns-4
     returns-5
-    returns-6)
+    returns-6
+    returns-7)

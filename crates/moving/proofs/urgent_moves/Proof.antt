@@ -25,6 +25,9 @@ less-one-requires c κs = search needs
 enum-told-5 : tie.Need-enum-told-5
 enum-told-5 c = search needs
 
+enum-told-6 : tie.Need-enum-told-6
+enum-told-6 c = search needs
+
 returns : tie.Need-returns
 returns c = search needs
 
@@ -46,6 +49,9 @@ returns-6 c = rw (c .before .before .before .k .given .1, ne-eqb _ _ (c .before 
 returns-7 : tie.Need-returns-7
 returns-7 c = search needs
 
+returns-8 : tie.Need-returns-8
+returns-8 c = search needs
+
 pub urgent-moves-spec : {M : Type 1} → statement M
 urgent-moves-spec =
     tie.close
@@ -57,10 +63,12 @@ urgent-moves-spec =
     enum-known-k
     less-one-requires
     enum-told-5
+    enum-told-6
     returns
     returns-2
     returns-3
     returns-4
     returns-5
     returns-6
-    returns-7)
+    returns-7
+    returns-8)

@@ -28,6 +28,9 @@ enum-told-3 c = search needs
 enum-told-4 : tie.Need-enum-told-4
 enum-told-4 c = search needs
 
+enum-told-5 : tie.Need-enum-told-5
+enum-told-5 c = search needs
+
 returns : tie.Need-returns
 unfolding recordsApart
 returns c = rw (c .enum-told .given .1)
@@ -52,6 +55,10 @@ returns-6 : tie.Need-returns-6
 unfolding recordsApart
 returns-6 c = rw (c .enum-told4 .given .1)
 
+returns-7 : tie.Need-returns-7
+unfolding recordsApart
+returns-7 c = rw (c .enum-told5 .given .1)
+
 pub records-apart-spec : {M : Type 1} → statement M
 records-apart-spec =
     tie.close
@@ -64,9 +71,11 @@ records-apart-spec =
     not-at-requires
     enum-told-3
     enum-told-4
+    enum-told-5
     returns
     returns-2
     returns-3
     returns-4
     returns-5
-    returns-6)
+    returns-6
+    returns-7)

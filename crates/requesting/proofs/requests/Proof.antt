@@ -26,6 +26,9 @@ enum-told-4 c = search needs
 enum-told-5 : tie.Need-enum-told-5
 enum-told-5 c = search needs
 
+enum-told-6 : tie.Need-enum-told-6
+enum-told-6 c = search needs
+
 returns : tie.Need-returns
 unfolding requests
 returns c = rw (c .enum-told .given .1)
@@ -54,6 +57,10 @@ returns-7 : tie.Need-returns-7
 unfolding requests
 returns-7 c = rw (c .enum-told5 .given .1)
 
+returns-8 : tie.Need-returns-8
+unfolding requests
+returns-8 c = rw (c .enum-told6 .given .1)
+
 pub requests-spec : {M : Type 1} → statement M
 requests-spec =
     tie.close
@@ -65,10 +72,12 @@ requests-spec =
     waits-in-requires
     enum-told-4
     enum-told-5
+    enum-told-6
     returns
     returns-2
     returns-3
     returns-4
     returns-5
     returns-6
-    returns-7)
+    returns-7
+    returns-8)

@@ -1,0 +1,2 @@
+-- A hold that goes through, then its commit, against an offer in their place.
+pub mod HoldThenCommit

@@ -1,2 +1,0 @@
--- What an offer comes to, written over the lent table, is the channel's definition.
-pub mod Offers

@@ -1,0 +1,2 @@
+pub mod WholePart
+pub mod WhichReads
