@@ -1,12 +1,11 @@
 -- The lines that `rehearse` prints for the answers of calls, and the header before them. A line begins with the call's number in the list.
 -- Bytes are numbers: letters are ASCII. Assumes nothing.
-use mathlib.Core.List.{List, [], _∷_, map}
-use Prim.Native.Nat.{ℕ, _-_}
-use lib.ListN.{getD}
+use mathlib.Core.List.{List, [], _∷_}
+use Prim.Native.Nat.{ℕ}
 use Rattle.decimals.specs.Decimal.{digitsOf}
 use Rattle.decimals.specs.Printing.{recordOf}
-use Rattle.call_records.specs.Words.{offerWord, holdWord, commitWord, withdrawWord, slotWord, calendarWord}
-use Rattle.turn_letters.specs.Letters.{letterOf}
+use Rattle.call_records.specs.Words.{offerWord, holdWord, commitWord, withdrawWord, calendarWord}
+use Rattle.slot_lines.specs.SlotLine.{slotLine}
 use Rattle.rules.specs.declared.Counters.{Counters}
 use Rattle.rules.specs.declared.Answer.{Answer}
 use Rattle.rules.specs.declared.Answer.the-variants.{Refused, Taken, OnHold, Committed, Withdrawn, Set, Went}
@@ -35,8 +34,8 @@ headerOf =
     )
 
 -- THE LINE OF AN ANSWER to call `k`: `k,refused,number`; an offer's `k,offer,total`, a hold's `k,hold,total`, a commit's
--- `k,commit,total`, a withdrawal's `k,withdraw,total`; a calendar's `k,calendar`; a slot's
--- `k,slot,group,turn,senders,index,segment,delivered,H,N,RQ`, where `c` is the counters after it, and RQ that of the slot's group
+-- `k,commit,total`, a withdrawal's `k,withdraw,total`; a calendar's `k,calendar`; a slot's,
+-- where `group` is whose slot it is and `c` the counters after it
 unfoldable pub answerLine : ℕ → ℕ → Counters → Answer → List ℕ
 answerLine k group c (Refused number) = recordOf (digitsOf k ∷ refusedWord ∷ digitsOf number ∷ [])
 answerLine k group c (Taken total) = recordOf (digitsOf k ∷ offerWord ∷ digitsOf total ∷ [])
@@ -44,7 +43,4 @@ answerLine k group c (OnHold total) = recordOf (digitsOf k ∷ holdWord ∷ digi
 answerLine k group c (Committed total) = recordOf (digitsOf k ∷ commitWord ∷ digitsOf total ∷ [])
 answerLine k group c (Withdrawn total) = recordOf (digitsOf k ∷ withdrawWord ∷ digitsOf total ∷ [])
 answerLine k group c Set = recordOf (digitsOf k ∷ calendarWord ∷ [])
-answerLine k group c (Went turn senders index segment delivered) =
-    let queues = c .urgent ∷ c .long ∷ getD (c .resolution) (group - 1) 0 ∷ [] in
-    recordOf
-    (digitsOf k ∷ slotWord ∷ digitsOf group ∷ (letterOf turn ∷ []) ∷ map digitsOf (senders ∷ index ∷ segment ∷ delivered ∷ queues))
+answerLine k group c (Went turn senders index segment delivered) = slotLine k group c turn senders index segment delivered

@@ -1,6 +1,6 @@
 -- `put_answer` puts the form of each answer, which is its line. Assumes nothing.
 use borrow.Author.Needs.{needs}
-use Rattle.answer_lines.proofs.AnswerForms.{refused-form, offer-form, hold-form, commit-form, withdraw-form, calendar-form}
+use Rattle.answer_lines.proofs.AnswerForms.{refused-form, offer-form, hold-form, commit-form, withdraw-form, calendar-form, slot-line}
 use Rattle.answer_lines.proofs.put_answer.Statement.{statement}
 use Rattle.answer_lines.proofs.put_answer.Tie as tie
 
@@ -119,7 +119,9 @@ same-length-7 : tie.Need-same-length-7
 same-length-7 c = search needs
 
 returns-7 : tie.Need-returns-7
-returns-7 c = rw (c .before .before .before .before .before .answer6 .given .1) (c .before .before .put-slot .ensures)
+returns-7 c =
+    let a = c .before .before .before .before .before .before .before .before .args in
+    rw (c .before .before .before .before .before .answer6 .given .1) (rw (slot-line (a .call) (a .group) (a .c) _ _ _ _ _) at (c .before .before .put-slot .ensures))
 
 pub put-answer-spec : {M : Type 1} → statement M
 put-answer-spec =

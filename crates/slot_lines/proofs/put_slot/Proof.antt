@@ -1,8 +1,8 @@
 -- `put_slot` puts a slot's form, which is the slot's line. Assumes nothing.
 use borrow.Author.Needs.{needs}
-use Rattle.answer_lines.proofs.AnswerForms.{slot-form}
-use Rattle.answer_lines.proofs.put_slot.Statement.{statement}
-use Rattle.answer_lines.proofs.put_slot.Tie as tie
+use Rattle.slot_lines.proofs.SlotForms.{slot-form}
+use Rattle.slot_lines.proofs.put_slot.Statement.{statement}
+use Rattle.slot_lines.proofs.put_slot.Tie as tie
 
 letter-requires : tie.Need-letter-requires
 letter-requires c κs = search needs

@@ -1,8 +1,8 @@
 -- `put_header` puts the header's form, which is the header. Assumes nothing.
 use borrow.Author.Needs.{needs}
-use Rattle.answer_lines.proofs.AnswerForms.{header-form}
-use Rattle.answer_lines.proofs.put_header.Statement.{statement}
-use Rattle.answer_lines.proofs.put_header.Tie as tie
+use Rattle.header_line.proofs.HeaderForm.{header-form}
+use Rattle.header_line.proofs.put_header.Statement.{statement}
+use Rattle.header_line.proofs.put_header.Tie as tie
 
 slice-aggregate-put-form : tie.Need-slice-aggregate-put-form
 slice-aggregate-put-form c = search needs
