@@ -1,10 +1,10 @@
 // A station with one of its message records written. Each function is equal to its rule of crate `rules`.
+use record_choice::record_of;
 use rules::Condition;
 use rules::MessageRecord;
 use rules::Station;
 use rules::Which;
 use rules::Writing;
-use verdicts::record_of;
 ghost use mathlib.Core.Path.{_≡_};
 ghost use Rattle.rules.specs.Writing.{withRecord, writes, writtenAs};
 

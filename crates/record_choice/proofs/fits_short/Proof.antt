@@ -2,8 +2,8 @@
 use native.Mathlib.Omega.{arith}
 use borrow.Author.Tests.{le-leb, lt-leb}
 use Rattle.message.specs.Message.{fitsShort}
-use Rattle.verdicts.proofs.fits_short.Statement.{statement}
-use Rattle.verdicts.proofs.fits_short.Tie as tie
+use Rattle.record_choice.proofs.fits_short.Statement.{statement}
+use Rattle.record_choice.proofs.fits_short.Tie as tie
 
 returns : tie.Need-returns
 unfolding fitsShort

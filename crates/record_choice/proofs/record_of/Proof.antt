@@ -1,7 +1,7 @@
 -- `record_of` is the record of the length, or the one that is named. Assumes nothing.
 use borrow.Author.Needs.{needs}
-use Rattle.verdicts.proofs.record_of.Statement.{statement}
-use Rattle.verdicts.proofs.record_of.Tie as tie
+use Rattle.record_choice.proofs.record_of.Statement.{statement}
+use Rattle.record_choice.proofs.record_of.Tie as tie
 
 enum-known-w : tie.Need-enum-known-w
 enum-known-w c = search needs

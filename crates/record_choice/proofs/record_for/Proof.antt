@@ -1,8 +1,8 @@
 -- `record_for` is the short record for a short message, else the long one. Assumes nothing.
 use mathlib.Core.Path.{_∙_, sym}
 use borrow.Author.Needs.{needs}
-use Rattle.verdicts.proofs.record_for.Statement.{statement}
-use Rattle.verdicts.proofs.record_for.Tie as tie
+use Rattle.record_choice.proofs.record_for.Statement.{statement}
+use Rattle.record_choice.proofs.record_for.Tie as tie
 
 fits-short-requires : tie.Need-fits-short-requires
 fits-short-requires c κs = search needs
