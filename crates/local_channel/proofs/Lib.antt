@@ -1,2 +1,2 @@
 -- What the calls answer.
-mod Told
+pub mod Told

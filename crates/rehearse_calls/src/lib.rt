@@ -30,7 +30,7 @@ pub fn write_record(
         WriteFields::Broken => end_with(r, 19, next, out, at),
         WriteFields::At(index, w) => {
             let channel = r.channel;
-            let called = local_channel::write(channel, index, w);
+            let called = local_write::write(channel, index, w);
             answer_with(r, called, next, out, at)
         }
     }
@@ -51,7 +51,7 @@ pub fn slot_record(r: Rehearsal, bytes: &[u8], next: usize, out: &mut [u8], at: 
     let picks = low_bytes(values);
     let count = list.count;
     let channel = r.channel;
-    let called = local_channel::slot(channel, &picks[..count]);
+    let called = local_slot::slot(channel, &picks[..count]);
     answer_with(r, called, next, out, at)
 }
 
@@ -61,7 +61,7 @@ pub fn bare_slot(r: Rehearsal, next: usize, out: &mut [u8], at: usize) -> Next
     ensures answer { λ n. ⌜ reachedBy n ≡ resultBy r (bareResult r) next (now (out .entry)) at .answer ⌝ }
 {
     let channel = r.channel;
-    let called = local_channel::slot(channel, &[]);
+    let called = local_slot::slot(channel, &[]);
     answer_with(r, called, next, out, at)
 }
 
@@ -78,6 +78,6 @@ pub fn calendar_record(r: Rehearsal, bytes: &[u8], next: usize, out: &mut [u8], 
     }
     let entries = fields.entries;
     let channel = r.channel;
-    let called = local_channel::calendar(channel, entries);
+    let called = local_calendar::calendar(channel, entries);
     answer_with(r, called, next, out, at)
 }

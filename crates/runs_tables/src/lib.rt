@@ -74,17 +74,17 @@ pub fn begun(c: LocalChannel, m: u8, n: u8, indexes: &[u16]) -> LocalStarted {
 }
 
 pub fn written(c: LocalChannel, index: u16, w: Writing) -> LocalCalled {
-    local_channel::write(c, index, w)
+    local_write::write(c, index, w)
 }
 
 pub fn offered(c: LocalChannel, index: u16, bytes: usize) -> LocalCalled {
-    local_channel::write(c, index, Writing::Offer { bytes })
+    local_write::write(c, index, Writing::Offer { bytes })
 }
 
 pub fn calendared(c: LocalChannel, entries: [u16; 24]) -> LocalCalled {
-    local_channel::calendar(c, entries)
+    local_calendar::calendar(c, entries)
 }
 
 pub fn slotted(c: LocalChannel, picks: &[u8]) -> LocalCalled {
-    local_channel::slot(c, picks)
+    local_slot::slot(c, picks)
 }

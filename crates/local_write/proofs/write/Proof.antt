@@ -1,10 +1,10 @@
 -- `write` is `channel::write` on the lent part of the room. Assumes nothing.
 use borrow.Author.Needs.{needs}
 use Rattle.rules.specs.Calls.{Write}
 use Rattle.local_channel.specs.Local.{localWriteOf}
 use Rattle.local_channel.proofs.Told.{call-both}
-use Rattle.local_channel.proofs.write.Statement.{statement}
-use Rattle.local_channel.proofs.write.Tie as tie
+use Rattle.local_write.proofs.write.Statement.{statement}
+use Rattle.local_write.proofs.write.Tie as tie
 
 write-lent-requires : tie.Need-write-lent-requires
 write-lent-requires c κs = search needs

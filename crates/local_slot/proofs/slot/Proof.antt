@@ -1,10 +1,10 @@
 -- `slot` is `channel::slot` on the lent part of the room. Assumes nothing.
 use borrow.Author.Needs.{needs}
 use Rattle.rules.specs.Calls.{Slot}
 use Rattle.local_channel.specs.Local.{localSlotOf}
 use Rattle.local_channel.proofs.Told.{call-both}
-use Rattle.local_channel.proofs.slot.Statement.{statement}
-use Rattle.local_channel.proofs.slot.Tie as tie
+use Rattle.local_slot.proofs.slot.Statement.{statement}
+use Rattle.local_slot.proofs.slot.Tie as tie
 
 slot-lent-requires : tie.Need-slot-lent-requires
 slot-lent-requires c κs = search needs

@@ -1,10 +1,10 @@
 -- `calendar` is `channel::calendar` on the lent part of the room. Assumes nothing.
 use borrow.Author.Needs.{needs}
 use Rattle.rules.specs.Calls.{Calendar}
 use Rattle.local_channel.specs.Local.{localCalendarOf}
 use Rattle.local_channel.proofs.Told.{call-both}
-use Rattle.local_channel.proofs.calendar.Statement.{statement}
-use Rattle.local_channel.proofs.calendar.Tie as tie
+use Rattle.local_calendar.proofs.calendar.Statement.{statement}
+use Rattle.local_calendar.proofs.calendar.Tie as tie
 
 calendar-lent-requires : tie.Need-calendar-lent-requires
 calendar-lent-requires c κs = search needs
