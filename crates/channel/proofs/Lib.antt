@@ -1,4 +1,3 @@
--- The walks of the calls: the data and the functions that they use.
+-- The data that the walks of the calls use; the function that the start's walk calls.
 pub mod Values
-mod Uses
 mod Loans

@@ -39,9 +39,9 @@ use Rattle.table.proofs.Returned.{owned-of}
 use Rattle.table.proofs.Lent.{lentSlice, lentVals, MutLoan}
 use Rattle.table.proofs.Values.{station}
 use Rattle.channel.proofs.Values.{wire, writing, entries, called, started}
-use Rattle.channel.proofs.slot as slot′
-use Rattle.channel.proofs.write as write′
-use Rattle.channel.proofs.calendar as calendar′
+use Rattle.channel_slot.proofs.slot as slot′
+use Rattle.channel_write.proofs.write as write′
+use Rattle.channel_calendar.proofs.calendar as calendar′
 use Rattle.channel.proofs.start as start′
 
 -- a result is its parts

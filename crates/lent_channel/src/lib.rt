@@ -71,7 +71,7 @@ fn write_part(
     ensures { λ r. ⌜ r ≡ callLentOf stations count (channelWriteOf (lentOf stations count wire) index w) ⌝ }
 {
     let mut table = stations;
-    let reply = channel::write(&mut table[..count], wire, index, w);
+    let reply = channel_write::write(&mut table[..count], wire, index, w);
     CallLent {
         stations: table,
         reply,
@@ -103,7 +103,7 @@ fn calendar_part(
     ensures { λ r. ⌜ r ≡ callLentOf stations count (channelCalendarOf (lentOf stations count wire) entries) ⌝ }
 {
     let mut table = stations;
-    let reply = channel::calendar(&mut table[..count], wire, entries);
+    let reply = channel_calendar::calendar(&mut table[..count], wire, entries);
     CallLent {
         stations: table,
         reply,
@@ -129,7 +129,7 @@ fn slot_part(stations: [Station; 65], count: usize, wire: [WireRow; 8], picks: &
     ensures { λ r. ⌜ r ≡ callLentOf stations count (channelSlotOf (lentOf stations count wire) (now (picks .entry))) ⌝ }
 {
     let mut table = stations;
-    let reply = channel::slot(&mut table[..count], wire, picks);
+    let reply = channel_slot::slot(&mut table[..count], wire, picks);
     CallLent {
         stations: table,
         reply,

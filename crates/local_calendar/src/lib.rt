@@ -7,7 +7,7 @@ ghost use Rattle.rules.specs.Numbers.{callTold};
 ghost use Rattle.channel_rules.specs.Answered.{channelCalendarToldOf};
 ghost use Rattle.local_channel.specs.Local.{lentBy, localCalendarOf};
 
-// Sets every station's calendar, by `channel::calendar` on the first `count` records.
+// Sets every station's calendar, by `channel_calendar::calendar` on the first `count` records.
 pub fn calendar(c: LocalChannel, entries: [u16; 24]) -> LocalCalled
     ensures { λ r. ⌜
         (r ≡ localCalendarOf c entries)

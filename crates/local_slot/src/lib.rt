@@ -7,7 +7,7 @@ ghost use Rattle.rules.specs.Numbers.{callTold};
 ghost use Rattle.channel_rules.specs.Answered.{channelSlotToldOf};
 ghost use Rattle.local_channel.specs.Local.{lentBy, localSlotOf};
 
-// A slot of the next group, by `channel::slot` on the first `count` records.
+// A slot of the next group, by `channel_slot::slot` on the first `count` records.
 pub fn slot(c: LocalChannel, picks: &[u8]) -> LocalCalled
     ensures { λ r. ⌜
         (r ≡ localSlotOf c (now (picks .entry)))

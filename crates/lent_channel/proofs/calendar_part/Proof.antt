@@ -1,5 +1,5 @@
 -- `calendar_part` meets its contract: a walk of its MIR, by hand, with one call, no branch and no loop. The room's copy, a local, has its first records lent to
--- `channel::calendar` for the time of the call (table's `LentPart`).
+-- `channel_calendar::calendar` for the time of the call (table's `LentPart`).
 -- Assumes nothing.
 use mathlib.Core.Path.{_≡_, refl, sym, subst}
 use Prim.Native.Nat.{ℕ, _≤_, _<_, _^_}
@@ -37,9 +37,9 @@ use denote.Triple.Walked.{says, needs, Stays, stay-none, walkOf, Walks, ends-at,
 use Rattle.rules.specs.declared.Station.{Station}
 use Rattle.rules.specs.declared.WireRow.{WireRow}
 use Rattle.channel_rules.specs.ChannelCalls.{ChannelResult}
-use Rattle.channel.proofs.calendar.Symbol as calendar-def
-use Rattle.channel.proofs.calendar.Symbol.{name as #channel·calendar}
-use Rattle.channel.proofs.calendar.Met as calendar-thm
+use Rattle.channel_calendar.proofs.calendar.Symbol as calendar-def
+use Rattle.channel_calendar.proofs.calendar.Symbol.{name as #channel-calendar·calendar}
+use Rattle.channel_calendar.proofs.calendar.Met as calendar-thm
 use Rattle.lent_channel.specs.declared.CallLent.{CallLent}
 use Rattle.lent_channel.specs.Lent.{callLentOf}
 use Rattle.table.proofs.LentPart.{calls-part}
@@ -116,7 +116,7 @@ module _ {M : Type 1} (𝓤 : URA M) (H : Heap 𝓤) (A : Atoms 𝓤) (W : Given
       frame ! $ nothing ! $ owned-of ! entries e _ ge $ fjoin ! $ owned-of ! wire w _ gw $ fjoin ! $
       owned-of ! (of-uint w64) n _ (refl, n-fits) $ fjoin ! $ owned-of ! room xs _ gs $ fjoin ! $ frame ! $ owned-of ! call-lent r _ gr $ done !
 
-  walk : (𝓣 : Tables 𝓤 H) → Triple 𝓤 (𝓣 .C #channel·calendar) (Calendar 𝓤 H A mem run)
+  walk : (𝓣 : Tables 𝓤 H) → Triple 𝓤 (𝓣 .C #channel-calendar·calendar) (Calendar 𝓤 H A mem run)
       → ent 𝓤 (onEntry 𝓤 H A lent′.signature tt tt a mach) (WpFn 𝓤 H (𝓣 .C) (𝓣 .Λ) fn (room .val xs ∷ vint w64 n ∷ wire .val w ∷ entries .val e ∷ []) Post)
   walk 𝓣 known =
       qed W (‵ ftrue ∷ ‵ (owns ((room .R) ∷ usize ∷ (wire .R) ∷ (entries .R) ∷ []) a mach) ∷ []) ∵ enter ! (𝓣 .C) (𝓣 .Λ) fn (room .val xs ∷ vint w64 n ∷ wire .val w ∷ entries .val e ∷ []) _ $
@@ -141,12 +141,12 @@ module _ {M : Type 1} (𝓤 : URA M) (H : Heap 𝓤) (A : Atoms 𝓤) (W : Given
       by ! (exits (call-made r back gc)))))))))))))
 
 module _ {M : Type 1} (𝓤 : URA M) (H : Heap 𝓤) (A : Atoms 𝓤) (W : Given 𝓤 H A) (mem : Memory → SProp 𝓤) (run : Routine → Fun 𝓤) where
-  lent-walks : (𝓣 : Tables 𝓤 H) → Triple 𝓤 (𝓣 .C #channel·calendar) (Calendar 𝓤 H A mem run) → Walks 𝓤 H A lent′.ended stayed (WpFn 𝓤 H (𝓣 .C) (𝓣 .Λ) fn) (lent′.clauses 𝓤 H A mem run)
+  lent-walks : (𝓣 : Tables 𝓤 H) → Triple 𝓤 (𝓣 .C #channel-calendar·calendar) (Calendar 𝓤 H A mem run) → Walks 𝓤 H A lent′.ended stayed (WpFn 𝓤 H (𝓣 .C) (𝓣 .Λ) fn) (lent′.clauses 𝓤 H A mem run)
   lent-walks 𝓣 known = walked 𝓤 H A lent′.ended stayed (lent′.clauses 𝓤 H A mem run) (WpFn 𝓤 H (𝓣 .C) (𝓣 .Λ) fn) (λ κs. (vals room, (uint-vals w64, (vals wire, (vals entries, tt))))) (λ κs. (room .tells, (uint-tells w64, (wire .tells, (entries .tells, tt)))))
       (λ κs qs bounds a g are. needs 𝓤 (a .1 .0 ≤ 65) _ (λ within. walk 𝓤 H A W mem run (a .0) (a .1 .0) (a .1 .1 .0) (a .1 .1 .1 .0) (are .0) (are .1 .0 .1) (are .1 .1 .0) (are .1 .1 .1 .0) within 𝓣 known))
 
 lent-meets : {M : Type 1} (𝓤 : URA M) (H : Heap 𝓤) (A : Atoms 𝓤) → Given 𝓤 H A → (mem : Memory → SProp 𝓤) (run : Routine → Fun 𝓤) (𝓣 : Tables 𝓤 H)
-    → Triple 𝓤 (𝓣 .C #channel·calendar) (Calendar 𝓤 H A mem run) → Meets 𝓤 H A lent′.signature (WpFn 𝓤 H (𝓣 .C) (𝓣 .Λ) code.function) (lent′.spec 𝓤 H A mem run)
+    → Triple 𝓤 (𝓣 .C #channel-calendar·calendar) (Calendar 𝓤 H A mem run) → Meets 𝓤 H A lent′.signature (WpFn 𝓤 H (𝓣 .C) (𝓣 .Λ) code.function) (lent′.spec 𝓤 H A mem run)
 lent-meets 𝓤 H A W mem run 𝓣 known =
     walk-meets 𝓤 H A lent′.ended stayed W (goes-none 𝓤 H A W 0 (λ _. (room .R)) yes (λ κs x f. refl), (goes-none 𝓤 H A W 0 (λ _. usize) yes (λ κs x f. refl), (goes-none 𝓤 H A W 0 (λ _. (wire .R)) yes (λ κs x f. refl), (goes-none 𝓤 H A W 0 (λ _. (entries .R)) yes (λ κs x f. refl), tt)))) (lent′.clauses 𝓤 H A mem run)
     (WpFn 𝓤 H (𝓣 .C) (𝓣 .Λ) code.function) (WpFn-mono 𝓤 H (W .laws) 𝓣 code.function)
@@ -158,4 +158,4 @@ calendar-part-spec 𝓤 H 𝓜 𝓖 𝓡 =
     entered 𝓤 H (tripleOf 𝓤 H (𝓖 .A) lent′.signature (lent′.spec 𝓤 H (𝓖 .A) (𝓜 .mem) (𝓡 .run)))
     (tables 𝓤 H 𝓜 𝓡 code.env .C) (tables 𝓤 H 𝓜 𝓡 code.env .Λ) #lent-channel·calendar-part code.function (code.unfolded 𝓤 H 𝓜 𝓡)
     (lent-meets 𝓤 H (𝓖 .A) (givenOf 𝓤 H 𝓜 𝓖) (𝓜 .mem) (𝓡 .run) (tablesOf 𝓤 H 𝓜 (tables 𝓤 H 𝓜 𝓡 code.env))
-    (cited 𝓤 H (Calendar 𝓤 H (𝓖 .A) (𝓜 .mem) (𝓡 .run)) 𝓜 𝓡 code.env #channel·calendar calendar-def.routine code.calls-channel·calendar (calendar-thm.met 𝓤 H 𝓜 𝓖 𝓡)))
+    (cited 𝓤 H (Calendar 𝓤 H (𝓖 .A) (𝓜 .mem) (𝓡 .run)) 𝓜 𝓡 code.env #channel-calendar·calendar calendar-def.routine code.calls-channel-calendar·calendar (calendar-thm.met 𝓤 H 𝓜 𝓖 𝓡)))

@@ -1,4 +1,4 @@
--- `calendar` is `channel::calendar` on the lent part of the room. Assumes nothing.
+-- `calendar` is `channel_calendar::calendar` on the lent part of the room. Assumes nothing.
 use borrow.Author.Needs.{needs}
 use Rattle.rules.specs.Calls.{Calendar}
 use Rattle.local_channel.specs.Local.{localCalendarOf}

@@ -1,4 +1,4 @@
--- `slot` is `channel::slot` on the lent part of the room. Assumes nothing.
+-- `slot` is `channel_slot::slot` on the lent part of the room. Assumes nothing.
 use borrow.Author.Needs.{needs}
 use Rattle.rules.specs.Calls.{Slot}
 use Rattle.local_channel.specs.Local.{localSlotOf}

@@ -1,4 +1,4 @@
--- `write` is `channel::write` on the lent part of the room. Assumes nothing.
+-- `write` is `channel_write::write` on the lent part of the room. Assumes nothing.
 use borrow.Author.Needs.{needs}
 use Rattle.rules.specs.Calls.{Write}
 use Rattle.local_channel.specs.Local.{localWriteOf}

@@ -56,8 +56,8 @@ use Rattle.channel_rules.proofs.NumbersHold.{channel-told}
 use Rattle.slots.proofs.Slot.{slot-is, answerable, judged-loaded}
 use Rattle.listlaws.proofs.Steps.{length-allSteps}
 use Rattle.table.proofs.Loans.{Load, loan-load}
-use Rattle.channel.proofs.Loans.{Judge, pass-judge}
-use Rattle.channel.proofs.Uses.{Reply, use-reply}
+use Rattle.channel_slot.proofs.Loans.{Judge, pass-judge}
+use Rattle.channel_slot.proofs.Uses.{Reply, use-reply}
 use Rattle.pass.proofs.Loans.{StepAll, loan-step-all}
 use Rattle.table.proofs.Passed.{calls-passed}
 use Rattle.table.proofs.Lent.{calls-shared, calls-mut-beside}
@@ -73,15 +73,15 @@ use Rattle.pass.proofs.step_all.Met as step-thm
 use Rattle.replying.proofs.reply.Symbol as reply-def
 use Rattle.replying.proofs.reply.Symbol.{name as #replying·reply}
 use Rattle.replying.proofs.reply.Met as reply-thm
-use Rattle.channel.proofs.slot.Key.{name as #channel·slot}
-use Rattle.channel.proofs.slot as slot′
-use Rattle.channel.proofs.slot.Statement as stated
-use Rattle.channel.proofs.slot.Code as code
-use Rattle.channel.proofs.slot.Code.Mir as mir
+use Rattle.channel_slot.proofs.slot.Key.{name as #channel-slot·slot}
+use Rattle.channel_slot.proofs.slot as slot′
+use Rattle.channel_slot.proofs.slot.Statement as stated
+use Rattle.channel_slot.proofs.slot.Code as code
+use Rattle.channel_slot.proofs.slot.Code.Mir as mir
 use Rattle.table.proofs.DataKinds.{ty, vals}
 use Rattle.table.proofs.Returned.{owned-of, calls-value}
 use Rattle.table.proofs.Values.{station, loaded}
 use Rattle.channel.proofs.Values.{called, judged, outcome, sent, wire, judged-steps, judged-outcome}
 
 abbrev R : RattleType
 R = station .R
@@ -236,7 +236,7 @@ pub slot-spec : {M : Type 1} → stated.statement M
 unfolding code.routine tablesOf
 slot-spec 𝓤 H 𝓜 𝓖 𝓡 =
     entered 𝓤 H (tripleOf 𝓤 H (𝓖 .A) slot′.signature (slot′.spec 𝓤 H (𝓖 .A) (𝓜 .mem) (𝓡 .run)))
-    (tables 𝓤 H 𝓜 𝓡 code.env .C) (tables 𝓤 H 𝓜 𝓡 code.env .Λ) #channel·slot code.function (code.unfolded 𝓤 H 𝓜 𝓡)
+    (tables 𝓤 H 𝓜 𝓡 code.env .C) (tables 𝓤 H 𝓜 𝓡 code.env .Λ) #channel-slot·slot code.function (code.unfolded 𝓤 H 𝓜 𝓡)
     (slot-meets 𝓤 H (𝓖 .A) (givenOf 𝓤 H 𝓜 𝓖) (𝓜 .mem) (𝓡 .run) (tablesOf 𝓤 H 𝓜 (tables 𝓤 H 𝓜 𝓡 code.env))
     (cited 𝓤 H (Load 𝓤 H (𝓖 .A) (𝓜 .mem) (𝓡 .run)) 𝓜 𝓡 code.env #table·load load-def.routine code.calls-table·load (load-thm.met 𝓤 H 𝓜 𝓖 𝓡))
     (cited 𝓤 H (Judge 𝓤 H (𝓖 .A) (𝓜 .mem) (𝓡 .run)) 𝓜 𝓡 code.env #slots·judge judge-def.routine code.calls-slots·judge (judge-thm.met 𝓤 H 𝓜 𝓖 𝓡))

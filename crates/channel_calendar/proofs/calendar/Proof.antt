@@ -51,7 +51,7 @@ use Rattle.rules.specs.Calls.{Calendar}
 use Rattle.rules.specs.Numbers.{callTold}
 use Rattle.channel_rules.proofs.NumbersHold.{channel-told}
 use Rattle.settings.proofs.Settings.{setting-is}
-use Rattle.channel.proofs.Uses.{PlaceCalendar, use-calendar}
+use Rattle.channel_calendar.proofs.Uses.{PlaceCalendar, use-calendar}
 use Rattle.table.proofs.Loans.{Load, loan-load, Store, loan-store}
 use Rattle.table.proofs.Lent.{calls-shared, calls-mut}
 use Rattle.table.proofs.load.Symbol as load-def
@@ -63,15 +63,15 @@ use Rattle.table.proofs.store.Met as store-thm
 use Rattle.settings.proofs.place_calendar.Symbol as place-def
 use Rattle.settings.proofs.place_calendar.Symbol.{name as #settings·place-calendar}
 use Rattle.settings.proofs.place_calendar.Met as place-thm
-use Rattle.channel.proofs.calendar.Key.{name as #channel·calendar}
-use Rattle.channel.proofs.calendar as calendar′
-use Rattle.channel.proofs.calendar.Statement as stated
-use Rattle.channel.proofs.calendar.Code as code
-use Rattle.channel.proofs.calendar.Code.Mir as mir
+use Rattle.channel_calendar.proofs.calendar.Key.{name as #channel-calendar·calendar}
+use Rattle.channel_calendar.proofs.calendar as calendar′
+use Rattle.channel_calendar.proofs.calendar.Statement as stated
+use Rattle.channel_calendar.proofs.calendar.Code as code
+use Rattle.channel_calendar.proofs.calendar.Code.Mir as mir
 use Rattle.table.proofs.DataKinds.{ty, vals}
 use Rattle.table.proofs.Returned.{owned-of, calls-value}
 use Rattle.table.proofs.Values.{station, loaded}
 use Rattle.channel.proofs.Values.{called, decided, wire, entries, decided-loaded, decided-reply}
 
 abbrev R : RattleType
 R = station .R
@@ -198,7 +198,7 @@ pub calendar-spec : {M : Type 1} → stated.statement M
 unfolding code.routine tablesOf
 calendar-spec 𝓤 H 𝓜 𝓖 𝓡 =
     entered 𝓤 H (tripleOf 𝓤 H (𝓖 .A) calendar′.signature (calendar′.spec 𝓤 H (𝓖 .A) (𝓜 .mem) (𝓡 .run)))
-    (tables 𝓤 H 𝓜 𝓡 code.env .C) (tables 𝓤 H 𝓜 𝓡 code.env .Λ) #channel·calendar code.function (code.unfolded 𝓤 H 𝓜 𝓡)
+    (tables 𝓤 H 𝓜 𝓡 code.env .C) (tables 𝓤 H 𝓜 𝓡 code.env .Λ) #channel-calendar·calendar code.function (code.unfolded 𝓤 H 𝓜 𝓡)
     (calendar-meets 𝓤 H (𝓖 .A) (givenOf 𝓤 H 𝓜 𝓖) (𝓜 .mem) (𝓡 .run) (tablesOf 𝓤 H 𝓜 (tables 𝓤 H 𝓜 𝓡 code.env))
     (cited 𝓤 H (Load 𝓤 H (𝓖 .A) (𝓜 .mem) (𝓡 .run)) 𝓜 𝓡 code.env #table·load load-def.routine code.calls-table·load (load-thm.met 𝓤 H 𝓜 𝓖 𝓡))
     (cited 𝓤 H (PlaceCalendar 𝓤 H (𝓖 .A) (𝓜 .mem) (𝓡 .run)) 𝓜 𝓡 code.env #settings·place-calendar place-def.routine code.calls-settings·place-calendar (place-thm.met 𝓤 H 𝓜 𝓖 𝓡))

@@ -54,7 +54,7 @@ use Rattle.rules.specs.Calls.{Write}
 use Rattle.rules.specs.Numbers.{callTold}
 use Rattle.channel_rules.proofs.NumbersHold.{channel-told}
 use Rattle.writes.proofs.Writes.{write-is}
-use Rattle.channel.proofs.Uses.{PlaceWrite, use-write}
+use Rattle.channel_write.proofs.Uses.{PlaceWrite, use-write}
 use Rattle.table.proofs.Loans.{Load, loan-load, Store, loan-store}
 use Rattle.table.proofs.Lent.{calls-shared, calls-mut}
 use Rattle.table.proofs.load.Symbol as load-def
@@ -66,15 +66,15 @@ use Rattle.table.proofs.store.Met as store-thm
 use Rattle.writes.proofs.place_write.Symbol as place-def
 use Rattle.writes.proofs.place_write.Symbol.{name as #writes·place-write}
 use Rattle.writes.proofs.place_write.Met as place-thm
-use Rattle.channel.proofs.write.Key.{name as #channel·write}
-use Rattle.channel.proofs.write as write′
-use Rattle.channel.proofs.write.Statement as stated
-use Rattle.channel.proofs.write.Code as code
-use Rattle.channel.proofs.write.Code.Mir as mir
+use Rattle.channel_write.proofs.write.Key.{name as #channel-write·write}
+use Rattle.channel_write.proofs.write as write′
+use Rattle.channel_write.proofs.write.Statement as stated
+use Rattle.channel_write.proofs.write.Code as code
+use Rattle.channel_write.proofs.write.Code.Mir as mir
 use Rattle.table.proofs.DataKinds.{ty, vals, of-uint}
 use Rattle.table.proofs.Returned.{owned-of, calls-value}
 use Rattle.table.proofs.Values.{station, loaded}
 use Rattle.channel.proofs.Values.{called, decided, wire, writing, decided-loaded, decided-reply}
 
 abbrev R : RattleType
 R = station .R
@@ -204,7 +204,7 @@ pub write-spec : {M : Type 1} → stated.statement M
 unfolding code.routine tablesOf
 write-spec 𝓤 H 𝓜 𝓖 𝓡 =
     entered 𝓤 H (tripleOf 𝓤 H (𝓖 .A) write′.signature (write′.spec 𝓤 H (𝓖 .A) (𝓜 .mem) (𝓡 .run)))
-    (tables 𝓤 H 𝓜 𝓡 code.env .C) (tables 𝓤 H 𝓜 𝓡 code.env .Λ) #channel·write code.function (code.unfolded 𝓤 H 𝓜 𝓡)
+    (tables 𝓤 H 𝓜 𝓡 code.env .C) (tables 𝓤 H 𝓜 𝓡 code.env .Λ) #channel-write·write code.function (code.unfolded 𝓤 H 𝓜 𝓡)
     (write-meets 𝓤 H (𝓖 .A) (givenOf 𝓤 H 𝓜 𝓖) (𝓜 .mem) (𝓡 .run) (tablesOf 𝓤 H 𝓜 (tables 𝓤 H 𝓜 𝓡 code.env))
     (cited 𝓤 H (Load 𝓤 H (𝓖 .A) (𝓜 .mem) (𝓡 .run)) 𝓜 𝓡 code.env #table·load load-def.routine code.calls-table·load (load-thm.met 𝓤 H 𝓜 𝓖 𝓡))
     (cited 𝓤 H (PlaceWrite 𝓤 H (𝓖 .A) (𝓜 .mem) (𝓡 .run)) 𝓜 𝓡 code.env #writes·place-write place-def.routine code.calls-writes·place-write (place-thm.met 𝓤 H 𝓜 𝓖 𝓡))
