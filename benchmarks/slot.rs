@@ -1,11 +1,12 @@
 // Times one slot of a channel under load, the test of its table and the step that is left, each as a difference of two runs of the static library `bench`.
 // With arguments it makes one run and prints its digest, for counting instructions: `load ROUNDS SLOTS PICKS CHECKS`, `check KIND GROUPS TIMES`,
-// `read TIMES` (minislots) or `index TIMES` (words).
+// `coming KIND GROUPS SLOTS TIMES`, `read TIMES` (minislots) or `index TIMES` (words).
 use std::time::Instant;
 
 unsafe extern "C" {
     fn bench_load(rounds: u64, slots: u64, picks: u64, checks: u64) -> u64;
     fn bench_check(kind: u64, groups: u8, times: u64) -> u64;
+    fn bench_coming(kind: u64, groups: u8, slots: u64, times: u64) -> u64;
     fn bench_read(times: u64) -> u64;
     fn bench_index(times: u64) -> u64;
 }
@@ -18,6 +19,11 @@ fn load(rounds: u64, slots: u64, picks: u64, checks: u64) -> u64 {
 fn check(kind: u64, groups: u8, times: u64) -> u64 {
     // the same
     unsafe { bench_check(kind, groups, times) }
+}
+
+fn coming(kind: u64, groups: u8, slots: u64, times: u64) -> u64 {
+    // the same
+    unsafe { bench_coming(kind, groups, slots, times) }
 }
 
 fn read(times: u64) -> u64 {
@@ -52,6 +58,7 @@ fn main() {
     match (words.first().map(String::as_str), numbers.as_slice()) {
         (Some("load"), &[rounds, slots, picks, checks]) => println!("{}", load(rounds, slots, picks, checks)),
         (Some("check"), &[kind, groups, times]) => println!("{}", check(kind, groups as u8, times)),
+        (Some("coming"), &[kind, groups, slots, times]) => println!("{}", coming(kind, groups as u8, slots, times)),
         (Some("read"), &[times]) => println!("{}", read(times)),
         (Some("index"), &[times]) => println!("{}", index(times)),
         _ => {
@@ -60,6 +67,7 @@ fn main() {
             let slot = cost(rounds, again, |k| load(rounds, k, 0, 0)) - picks;
             let test = cost(rounds, again, |k| load(rounds, 0, 0, k));
             println!("slot {slot:.0} ns, of which test {test:.0} ns, step {:.0} ns", slot - test);
+            println!("coming slots {:.0} ns, of which test {:.0} ns", cost(1, 20, |k| coming(8, 1, 1024, k)), cost(1, 20, |k| check(8, 1, k)));
             println!("minislot read {:.1} ns", cost(1, 100_000, read));
             println!("index of a word {:.1} ns", cost(1, 100_000, index));
         }

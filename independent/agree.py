@@ -6,8 +6,8 @@ plain channel of queues (plain.py).
   agree.py LISTS    so many
 
 After each call the answers, both records of each box, counters, calendar, position and wire must be the same, and the slots of all messages taken must be those
-delivered and those that wait; a held message is taken at its commit. It stops at the first that is not so, and at the end says how often each answer, each turn and
-each pair of conditions came.
+delivered and those that wait; a held message is taken at its commit. Who sends in the coming slots is asked of both on the way. It stops at the first that is not so,
+and at the end says how often each answer, each turn and each pair of conditions came.
 """
 import random
 import sys
@@ -55,6 +55,14 @@ class Both:
             self.boxes, boxes = boxes, None
         self.same(plain, boxes)
 
+    def coming(self, w):
+        """Answers what came of it: whether both queues are empty now, within the list or after it."""
+        plain = answer_of(self.plain.coming, w)
+        self.same(plain, answer_of(channel.channel_coming, self.boxes, w))
+        if plain[0] == "refused":
+            return "coming refused %d" % plain[1]
+        return "coming: empty " + ("now" if plain[1] == 0 else "within the list" if plain[1] <= w else "after it")
+
     def kept(self, result):
         """The answer of a call; the table that it left is kept."""
         if result[0] == "refused":
@@ -92,6 +100,8 @@ def rehearsed(chance):
             both.calendar([chance.choice((owner, FREE, FREE)) if chance.random() < 0.9 else FREE for _ in range(24)])
         if chance.random() < 0.05:
             both.slot([chance.randint(0, m + 1) for _ in range(chance.choice((stations, stations + 1)))])
+        if chance.random() < 0.1:
+            seen.append(both.coming(chance.choices((0, 1, 24, 25, 1024, 1025, chance.randint(1026, 65535), chance.randint(1, 40)), (1, 2, 2, 2, 0.2, 1, 1, 20))[0]))
         seen.append(both.slot([chance.randint(1, m) for _ in indexes]).split(",")[0])
         seen += [tuple(condition[0] for condition in pair) for pair in both.plain.conditions()]
     return seen

@@ -2,9 +2,11 @@
 """What crates/channel_run must write, made from the papers' sentences and not from the Rattle programs.
 
 A table is a list of boxes (station.py) beside a wire. It is sound if what the paper says of it holds place by place. A slot is each box's own slot on
-the row that the wire has; the requests that the boxes answer make the new row. In an owned slot the box that the turn names sends its stream.
+the row that the wire has; the requests that the boxes answer make the new row. In an owned slot the box that the turn names sends its stream. Who sends in the coming
+slots comes of such slots, on records from which all but the messages in the urgent and the long queue is gone.
 """
 import copy
+import itertools
 
 from station import (
     FREE, NOBODY, RECORDS, UNUSED, WORDS, Refusal, alone, blank, commit, fits, hold, nothing, offer, owned_text, owners_of, owning, put, put_record, read, slot, withdraw,
@@ -115,6 +117,12 @@ def channel_slot(ch, picks):
         raise Refusal(17)
     if any(not 1 <= pick <= first["m"] for pick in picks):
         raise Refusal(11)
+    return stepped(ch, picks)
+
+
+def stepped(ch, picks):
+    """A slot of a sound table, with picks that are as they should."""
+    first = ch.boxes[0]
     g = first["next"]
     row = ch.wire[g - 1][: first["m"]]
     results = [slot(box, row, pick) for box, pick in zip(ch.boxes, picks)]
@@ -140,6 +148,32 @@ def channel_calendar(ch, entries):
     if FREE not in entries:
         raise Refusal(21)
     return Channel([dict(box, calendar=list(entries)) for box in ch.boxes], copy.deepcopy(ch.wire))
+
+
+def quieted(ch):
+    """The table without the messages outside H and N, which leave their records free, their resolution places gone and the wire silent."""
+    def kept(condition):
+        return condition if condition[0] in ("urgent", "long") else UNUSED
+
+    return Channel([dict(box, RQ=[0] * 8, **{name: kept(box[name]) for name in RECORDS}) for box in ch.boxes], silent())
+
+
+def channel_coming(ch, w):
+    """Who sends in each of the next w slots, 65,535 for nobody, and the number of slots until H and N are 0: slots of the quieted table, whose picks go round m."""
+    ch.check()
+    if not 1 <= w <= 1024:
+        raise Refusal(23)
+    run, senders, until = quieted(ch), [], None
+    for k in itertools.count():
+        if k % 64 == 0 or k == w:
+            run.check()
+        if until is None and run.boxes[0]["H"] == 0 and run.boxes[0]["N"] == 0:
+            until = k
+        if until is not None and k >= w:
+            return senders[:w], until
+        answer, run = stepped(run, [(7 * k + i * i) % run.boxes[0]["m"] + 1 for i in range(len(run.boxes))])
+        assert answer[1] <= 1
+        senders.append(answer[2] if answer[1] == 1 else 65535)
 
 
 # ---- what is written
@@ -204,6 +238,18 @@ def slotted(ch, *picks):
         put("refused", refused)
     put_table(ch)
     return ch
+
+
+def foreseen(ch, w):
+    """Who sends in the next w slots; then the list that was lent, which a refusal leaves with the numbers that it had."""
+    put("coming", w)
+    entries = upward(1000, w)
+    try:
+        entries, until = channel_coming(ch, w)
+        put("until", until)
+    except Refusal as refused:
+        put("refused", refused)
+    put("list", *entries)
 
 
 def show(ch):
@@ -295,10 +341,17 @@ def slots_refused():
     slotted(ch.with_count(65), 0, 1, 1, 1, 1)
 
 
+def slotted_unsound(ch):
+    """18 by a slot that would be refused by 17, and of the coming slots, none of them and two."""
+    slotted(ch)
+    foreseen(ch, 0)
+    foreseen(ch, 2)
+
+
 def unsound(ch):
     put_table(ch)
     offered(ch, 50, 0)
-    slotted(ch)
+    slotted_unsound(ch)
 
 
 def unsound_tables():
@@ -412,7 +465,7 @@ def unsound_calendars():
     def tried(ch):
         show(ch)
         offered(ch, 50, 0)
-        slotted(ch)
+        slotted_unsound(ch)
         calendared(ch, EACH[:23] + [50])
 
     for position, entries in ((24, NOBODY), (255, NOBODY), (0, owning(p7=50)), (7, owning(p23=0)), (0, owning(p7=924)), (3, EACH)):
@@ -632,7 +685,7 @@ def tried_unsound(ch):
         committed(ch, 50, name)
         withdrawn(ch, 50, name)
     offered(ch, 50, 0)
-    slotted(ch)
+    slotted_unsound(ch)
     calendared(ch, EACH[:23] + [50])
 
 
@@ -734,6 +787,73 @@ def streams_beside_held():
     show(ch)
 
 
+# ---- who sends in the coming slots
+
+def coming_refused():
+    """14, 18 and 23, each where a later number would come; and 65 records of which the first 64 are sound."""
+    def tried(ch):
+        for w in (0, 3, 1025):
+            foreseen(ch, w)
+
+    ch = base()
+    tried(ch.with_count(0))
+    tried(ch.with_count(65))
+    tried(begun(EMPTY_TABLE.with_count(64), 8, 8, upward(100, 64)).with_count(65))
+    foreseen(ch.with_box(0, box_of(100)), 1025)
+    for w in (0, 1025, 1030):
+        foreseen(ch, w)
+
+
+def coming_of_sound_tables():
+    """Tables of the runs before: free and with owners, at the ends of the calendar; after slots of them too."""
+    for w in (1, 2, 12, 24, 25, 1024):
+        foreseen(base(), w)
+    for position, entries in ((21, owning(p21=100, p22=200, p23=300, p0=400, p1=500, p2=600)), (11, MOST), (12, MOST), (23, owning(p23=200))):
+        foreseen(everywhere(base(), position, entries), 27)
+    for position, entries in ((0, NOBODY), (22, owning(p22=600, p23=500, p0=200, p2=100))):
+        foreseen(everywhere(with_held(), position, entries), 30)
+    foreseen(everywhere(doubled(), 12, MOST), 30)
+    ch = everywhere(doubled(), 5, owning(p5=100, p6=700, p8=300))
+    foreseen(ch, 1024)
+    for picks in ((1, 1, 1, 1, 1, 1, 2, 2), (1, 2, 1, 1, 1, 2, 1, 1), (1, 1, 1, 2, 1, 1, 2, 2), (1, 2, 1, 2, 1, 1, 1, 1)):
+        ch = slotted(ch, *picks)
+        foreseen(ch, 26)
+    ch = calendared(offered(ch, 800, 97), owning(p9=800))
+    foreseen(ch, 26)
+
+
+def scattered(count, n, nxt, lefts):
+    """A table that no start leads to: so many boxes, whose urgent places and long stretches stand in an order of their own; a stretch that is not the first has fewer
+    slots left than its total. Of these lefts those that are 0 are no message; every fourth box has no short one."""
+    boxes = [blank(8, n, (37 * k + 5) % 924) for k in range(count)]
+    urgent, first = 0, 1
+    for k in range(count):
+        box = boxes[(13 * k + 7) % count]
+        if k % 4:
+            urgent += 1
+            box["short"] = ("urgent", urgent)
+        box = boxes[(29 * k + 3) % count]
+        if lefts[k % len(lefts)]:
+            box["long"] = ("long", first, lefts[k % len(lefts)], min(lefts[k % len(lefts)] + k % 5 + 1, 255))
+            first += lefts[k % len(lefts)]
+    return Channel([dict(box, next=nxt, H=urgent, N=first - 1, Open=[g == 1 for g in range(n)] + [True] * (8 - n)) for box in boxes], silent())
+
+
+def coming_of_scattered_tables():
+    ch = scattered(8, 3, 3, (4, 1, 0, 7))
+    put_table(ch)
+    for position, entries in ((0, NOBODY), (7, owning(p7=5, p8=42, p9=264, p20=5)), (23, [5] * 23 + [FREE]), (0, [5] * 23 + [FREE])):
+        foreseen(everywhere(ch, position, entries), 40)
+    foreseen(everywhere(ch, 3, [FREE] + [42, 79] * 11 + [5]), 1024)
+    ch = slotted(ch, *[1] * 8)
+    for index, size in ((116, 1), (42, 12240), (190, 49)):
+        ch = offered(ch, index, size)
+    foreseen(ch, 40)
+    ch = scattered(64, 1, 1, (1, 3, 0, 2, 5))
+    foreseen(ch, 300)
+    foreseen(calendared(ch, [5, FREE, FREE] * 8), 1024)
+
+
 def main():
     starts_refused()
     starts()
@@ -760,6 +880,9 @@ def main():
     served_with_held()
     held_from_the_start()
     streams_beside_held()
+    coming_refused()
+    coming_of_sound_tables()
+    coming_of_scattered_tables()
 
 
 if __name__ == "__main__":

@@ -3,9 +3,15 @@
 A message is a dict with its box, its slots and how many of them were delivered. Its slots say which of the box's two records it has: a message of one slot
 the short one, any other the long one. Conditions, counters and the wire are read off the queues. A held message is kept apart: it is in no queue, and no total
 counts it before its commit. The calendar is kept as it was set, and beside it how many slots there were since the start: their remainder by 24 is the position.
+Who sends in the coming slots is found by running a copy, from which all messages outside the urgent and the long queue have been taken.
 """
+import copy
+import random
+from collections import deque
+
 WORDS = [w for w in range(4096) if format(w, "b").count("1") == 6]
 FREE = 65535  # the entry of a position without an owner
+NOBODY = 65535  # stands for an index where no box sends
 SHORT, LONG = 0, 1  # a box's two records
 
 
@@ -29,15 +35,19 @@ class Plain:
         if len(set(indexes)) != boxes:
             raise Refusal(15)
         self.m, self.n, self.indexes = m, n, list(indexes)
-        self.fresh, self.urgent, self.long = [], [], []
-        self.held = []
+        self.urgent, self.long = deque(), deque()
+        self.have_no_others()
         self.group = 1
         self.open = {g: True for g in range(1, n + 1)}
-        self.asking = {g: {j: [] for j in range(1, m + 1)} for g in range(1, n + 1)}
-        self.resolution = {g: [] for g in range(1, n + 1)}
         self.history = []
         self.mine = [[None, None] for _ in range(boxes)]  # the message of each box's record that was taken and is not all delivered
         self.entries, self.slots = [FREE] * 24, 0
+
+    def have_no_others(self):
+        """No message outside the urgent and the long queue: none held, none fresh, none asking, none to resolve."""
+        self.held, self.fresh = [], []
+        self.asking = {g: {j: [] for j in range(1, self.m + 1)} for g in range(1, self.n + 1)}
+        self.resolution = {g: [] for g in range(1, self.n + 1)}
 
     def deliver(self, message, segment):
         self.history.append((message, segment))
@@ -104,30 +114,32 @@ class Plain:
         """The turn, the data senders, a lone one's index and segment, the slots delivered."""
         if len(picks) != len(self.indexes):
             raise Refusal(17)
-        if any(not 1 <= p <= self.m for p in picks):
+        if min(picks) < 1 or max(picks) > self.m:
             raise Refusal(11)
         before, g = len(self.history), self.group
         row, self.asking[g] = self.asking[g], {j: [] for j in range(1, self.m + 1)}
         singles = [messages[0]["slots"] for messages in row.values() if len(messages) == 1]
         collides = [messages for messages in row.values() if len(messages) > 1]
         success = self.open[g] and not collides and singles.count(1) == 1
-        H, N, RQ = list(self.urgent), list(self.long), list(self.resolution[g])
-        at_once = []
+        H, N, RQ = self.urgent, self.long, self.resolution[g]
+        at_once, to_urgent, to_long, to_resolution = [], [], [], []
         for j in range(1, self.m + 1):
             if len(row[j]) == 1:
                 message = row[j][0]
                 if message["slots"] > 1:
-                    N += [(message, k) for k in range(1, message["slots"] + 1)]
+                    to_long += [(message, k) for k in range(1, message["slots"] + 1)]
                 elif success:
                     at_once.append(message)
                 else:
-                    H.append(message)
+                    to_urgent.append(message)
             elif row[j]:
-                RQ.append(row[j])
-        if len(H) > 4095 or len(N) > 65535 or len(RQ) > 4095:
+                to_resolution.append(row[j])
+        if len(H) + len(to_urgent) > 4095 or len(N) + len(to_long) > 65535 or len(RQ) + len(to_resolution) > 4095:
             self.asking[g] = row
             raise Refusal(7)
-        self.urgent, self.long, self.resolution[g] = H, N, RQ
+        H += to_urgent
+        N += to_long
+        RQ += to_resolution
         for message in at_once:
             self.deliver(message, 1)
         owner = self.entries[self.slots % 24]
@@ -141,9 +153,9 @@ class Plain:
             self.asking[g][picks[message["box"]]].append(message)
         sent = []
         if turn == "urgent":
-            sent = [(H.pop(0), 1)]
+            sent = [(H.popleft(), 1)]
         elif turn == "long":
-            sent = [N.pop(0)]
+            sent = [N.popleft()]
         for message, segment in sent:
             self.deliver(message, segment)
         if turn == "open":
@@ -162,6 +174,36 @@ class Plain:
         for message in self.fresh:
             (stay if record_of(message) == LONG and message["box"] in with_short else ask).append(message)
         return ask, stay
+
+    # ---- who sends in the coming slots
+
+    def quieted(self):
+        """A copy without a message outside the urgent and the long queue, and without a history."""
+        other = copy.copy(self)
+        other.have_no_others()
+        other.open, other.history = dict(self.open), []
+        other.urgent, other.long = copy.deepcopy((self.urgent, self.long))
+        other.mine = [[None, None] for _ in self.indexes]
+        for message in [*other.urgent, *[message for message, _ in other.long]]:
+            other.mine[message["box"]][record_of(message)] = message
+        return other
+
+    def coming(self, w):
+        """The index that sends in each of the next w slots, and how many slots there are until the urgent and the long queue are empty: that copy is run, with picks by
+        chance, for w slots and until then."""
+        if not 1 <= w <= 1024:
+            raise Refusal(23)
+        chance = random.Random(w)
+        rows = [[chance.randint(1, self.m) for _ in self.indexes] for _ in range(8)]
+        run, senders, until = self.quieted(), [], None
+        while until is None or len(senders) < w:
+            if until is None and not run.urgent and not run.long:
+                until = len(senders)
+                continue
+            turn, count, index, _, _ = run.slot(chance.choice(rows))
+            assert turn != "resolve" and count == (0 if turn == "open" else 1)
+            senders.append(index if count else NOBODY)
+        return senders[:w], until
 
     # ---- what the boxes and the wire must show of it
 

@@ -9,6 +9,7 @@
   rehearse.py long STATIONS SLOTS
                             a list of that many slots for timing, with eight offers after every 24th
 """
+import functools
 import sys
 
 from plain import FREE, LONG, SHORT, Plain, Refusal
@@ -18,7 +19,7 @@ HEADER = b"call,kind,group,turn,senders,index,segment,delivered,H,N,RQ\r\n"
 LONGEST = 512
 # the largest number that each parameter holds; the bytes of an offer or a hold are any number of five digits
 MINISLOTS = GROUPS = PICKED = 255
-INDEX = ENTRY = 65535
+INDEX = ENTRY = COMING_SLOTS = 65535
 BYTES = 99999
 POSITIONS = 24
 KINDS = {b"short": SHORT, b"long": LONG}
@@ -72,6 +73,8 @@ class Rehearsal:
             call, numbers = self.slot, fitting(rest, [PICKED] * len(rest))
         elif word == b"calendar":
             call, numbers = self.calendar, fitting(rest, [ENTRY] * POSITIONS)
+        elif word == b"coming":
+            call, numbers = self.coming, fitting(rest, [COMING_SLOTS])
         elif word == b"show":
             call, numbers = self.show, fitting(rest, [])
         else:
@@ -107,6 +110,10 @@ class Rehearsal:
         self.channel.calendar(*entries)
         return self.line("calendar")
 
+    def coming(self, w):
+        senders, until = self.channel.coming(w)
+        return self.line("coming", until, *senders)
+
     def show(self):
         channel = self.channel
         m, n, following, H, N, *rest = channel.counters()
@@ -119,13 +126,14 @@ class Rehearsal:
         return b"".join(out)
 
 
+@functools.cache  # since some lists are looked at before they are run
 def rehearse(data):
     return printed(data, LONGEST, HEADER, Rehearsal().step)
 
 
 # ---- what the lists are made of
 
-ARRIVES, KIND, SIZE, PICK, BAD, BAD_KIND, SET, SET_KIND, OWNED, OWNER, SHORTS, LONGS, APART, HELD, RELEASED, RELEASE_KIND = range(1, 17)
+ARRIVES, KIND, SIZE, PICK, BAD, BAD_KIND, SET, SET_KIND, OWNED, OWNER, SHORTS, LONGS, APART, HELD, RELEASED, RELEASE_KIND, LOOKED, LOOKED_KIND, AHEAD = range(1, 20)
 
 
 def scrambled(x):
@@ -204,16 +212,27 @@ def drawn_releases(s, indexes, sent):
     return ["%s,%d,%s" % ("withdraw" if draw(s, k, RELEASE_KIND, 4) == 0 else "commit", *pair) for k, pair in enumerate(chosen)]
 
 
-def driven(stations, m, n, slots, calendars=False, holds=False):
+def drawn_coming(s, k):
+    """Slots of a call by the same rule, as text: mostly few, sometimes some rounds of the calendar, now and then the most; one in twelve is refused."""
+    kind = draw(s, k, LOOKED_KIND, 48)
+    if kind < 4:
+        return "coming,%d" % [0, 1025, 65535, 1026 + draw(s, k, AHEAD, 60000)][kind]
+    return "coming,%d" % (1024 if kind == 4 else 1 + draw(s, k, AHEAD, 1024 if kind == 5 else 120 if kind < 12 else 30))
+
+
+def driven(stations, m, n, slots, calendars=False, holds=False, coming=False):
     """Offers, bad calls and slots by an arithmetic rule: first seldom an offer, then more of them, then many; often one of each kind to the same station. A show
     now and then, before a slot or after it. With calendars, one is set before some of the slots. With holds, about every second message is held
-    and not offered, and there are commits and withdrawals before the slots."""
+    and not offered, and there are commits and withdrawals before the slots. With coming, who sends in the
+    coming slots is asked before about every second slot, before the other calls there or after them."""
     indexes = [(331 * k + n) % 924 for k in range(stations)]
     calls = [start(m, n, indexes)]
     sent = []
     apart = 24
     for s in range(slots):
         rarity = [8 * stations, 2 * stations, min(stations, 8)][s // 24 % 3]
+        if coming and draw(s, 0, LOOKED, 4) == 0:
+            calls.append(drawn_coming(s, 0))
         for k in range(stations):
             if draw(s, k, ARRIVES, rarity) == 0:
                 short, two_slots, longer = 1 + draw(s, k, SIZE, 48), 49 + draw(s, k, SIZE, 48), 49 + draw(s, k, SIZE, 432)
@@ -234,6 +253,8 @@ def driven(stations, m, n, slots, calendars=False, holds=False):
             calls.append(drawn_calendar(s, indexes))
         if s % apart == 0:
             calls.append("show")
+        if coming and draw(s, 1, LOOKED, 3) == 0:
+            calls.append(drawn_coming(s, 1))
         calls.append(slot(picks[:-1]))
         if s % apart == apart // 2:
             calls.append("show")
@@ -296,8 +317,9 @@ def bursts(n, slots):
     return lines(*calls)
 
 
-def long(stations, slots, shows=0):
-    """A busy channel: eight offers after every 24th slot, one of them long; the picks of 251 rows in turn. A show every so many slots, if at all."""
+def long(stations, slots, shows=0, looks=0):
+    """A busy channel: eight offers after every 24th slot, one of them long; the picks of 251 rows in turn. A show, and a call for the coming slots, every so many slots, if
+    at all."""
     indexes = list(range(stations))
     rows = [slot(1 + draw(s, k, PICK, 8) for k in indexes) for s in range(251)]
     offers = 0
@@ -309,6 +331,8 @@ def long(stations, slots, shows=0):
             offers += 1
         if shows and s % shows == 0:
             yield "show"
+        if looks and s % looks == 0:
+            yield "coming,%d" % (1024 - s % 7)
 
 
 # ---- the lists
@@ -362,18 +386,18 @@ def walks():
         BY_ROW, BY_COLUMN, *["offer,%d,255" % index for index in MANY[40:]], BY_COLUMN, "show", *[BY_ROW, BY_COLUMN] * 12, "show")
 
 
-def pairs():
-    """Station 7 with its two records in each pair of conditions that a channel can reach, the short one's first. It is shown, then offered nothing and a message
-    of each kind, each of which is taken or refused by its own record; then slots until all is delivered.
+def paired():
+    """Calls on stations 7, 8, 9 and 10 of two groups and two minislots after which station 7's two records are in each pair of conditions that a channel can reach,
+    the short one's first. In the second list one of the two is held, or both.
 
     A message is still urgent after the slot that heard it if another one was before it, and still resolving if another collision was.
     """
     short, long, silent = "offer,7,1", "offer,7,240", "slot,1,1,1,1"
     late = "slot,2,1,1,2"  # 7 after 8; where all four ask, its collision with 10 after that of 8 and 9
-    parted = "slot,1,1,2,2"  # 7 and 10 are apart, and so are 8 and 9
     others, other_longs = ["offer,%d,1" % i for i in (8, 9, 10)], ["offer,%d,49" % i for i in (8, 9, 10)]
     queued = [long, silent, silent, silent]
-    for name, *calls in (
+    short_held, long_held = "hold,7,1", "hold,7,240"
+    return (
         ("free_free",), ("free_fresh", long), ("free_asked", long, silent), ("free_long", *queued), ("free_resolving", long, *others, late, silent, silent),
         ("fresh_free", short), ("fresh_fresh", long, short), ("fresh_asked", long, silent, short), ("fresh_long", *queued, short),
         ("fresh_resolving", long, *others, late, silent, silent, short),
@@ -385,19 +409,27 @@ def pairs():
         ("resolving_free", short, *others, late, silent, silent), ("resolving_fresh", short, *others, late, silent, silent, long),
         ("resolving_asked", short, *others, late, long, silent, silent), ("resolving_long", short, *others, late, long, silent, silent, silent),
         ("resolving_resolving", short, *others, late, long, *other_longs, late, silent, silent),
-    ):
-        yield "pair_" + name, lines("2,2,7,8,9,10", *calls, "show", "offer,7,0", "offer,7,48", "offer,7,49", *[parted] * 22, "show")
-    # one of the two is held, or both: it is when the slots are over, and is committed then
-    short_held, long_held = "hold,7,1", "hold,7,240"
-    for name, *calls in (
+    ), (
         ("held_free", short_held), ("held_held", short_held, long_held), ("held_fresh", short_held, long), ("held_asked", short_held, long, silent), ("held_long", short_held, *queued),
         ("held_resolving", short_held, long, *others, late, silent, silent),
         ("free_held", long_held), ("fresh_held", long_held, short), ("asked_held", long_held, short, silent), ("urgent_held", long_held, short, others[0], late, silent, silent),
         ("resolving_held", long_held, short, *others, late, silent, silent),
-    ):
+    )
+
+
+PARTED = "slot,1,1,2,2"  # 7 and 10 are apart, and so are 8 and 9
+
+
+def pairs():
+    """Station 7 with its two records in each pair of conditions that a channel can reach. It is shown, then offered nothing and a message of each kind, each of which
+    is taken or refused by its own record; then slots until all is delivered. What is held is when the slots are over, and is committed then."""
+    taken, with_held = paired()
+    for name, *calls in taken:
+        yield "pair_" + name, lines("2,2,7,8,9,10", *calls, "show", "offer,7,0", "offer,7,48", "offer,7,49", *[PARTED] * 22, "show")
+    for name, *calls in with_held:
         yield "pair_" + name, lines(
-            "2,2,7,8,9,10", *calls, "show", "offer,7,0", "hold,7,12241", "offer,7,48", "hold,7,48", "hold,7,49", "offer,7,49", *[parted] * 22, "show", "commit,7,short", "commit,7,long",
-            *[parted] * 12, "show")
+            "2,2,7,8,9,10", *calls, "show", "offer,7,0", "hold,7,12241", "offer,7,48", "hold,7,48", "hold,7,49", "offer,7,49", *[PARTED] * 22, "show", "commit,7,short", "commit,7,long",
+            *[PARTED] * 12, "show")
 
 
 def two_messages():
@@ -643,6 +675,144 @@ def calendars():
     yield "first_is_a_calendar", lines(CLEARED, TWO, "slot,1,1")
 
 
+def filled(n, sizes, *after):
+    """Stations with messages of these bytes, a short one and a long one at most. Each is asked for, heard alone and queued while one of the stations owns every slot, so
+    that none is served; eight stations ask at a time. Then other calls, a calendar first."""
+    indexes = list(sizes)
+    apart = slot(k % 8 + 1 for k in range(len(indexes)))
+    calls = [start(8, n, indexes), calendar({p: indexes[0] for p in range(23)})]
+    for eight in (indexes[k:k + 8] for k in range(0, len(indexes), 8)):
+        for low, high in ((1, 48), (49, 12240)):
+            offers = ["offer,%d,%d" % (index, bytes) for index in eight for bytes in sizes[index] if low <= bytes <= high]
+            calls += [*offers, apart] if offers else []
+    return lines(*calls, *[apart] * n, *after)
+
+
+def foretold(data):
+    """The same list. It stops unless the slots right after each call for the coming ones are what was said, which must be so where no message is outside both queues: the
+    senders of those slots, and H and N both 0 after so many of them and not before. The slots go on beyond the list of one of the calls at least."""
+    said, slots, beyond = [], 0, False
+    for fields in (text.split(",") for text in rehearse(data).decode().split("\r\n")[1:]):
+        if fields[1:2] == ["coming"]:
+            said.append((slots, int(fields[2]), fields[3:]))
+        elif fields[1:2] == ["slot"]:
+            empty = fields[-3:-1] == ["0", "0"]
+            for at, until, senders in said:
+                k = slots - at
+                assert empty == (until <= k + 1), (fields, at, until)
+                if k < len(senders):
+                    assert senders[k] == (fields[5] if fields[4] == "1" else "65535"), (fields, at, senders)
+                beyond = beyond or k >= len(senders)
+            slots += 1
+        elif fields[1:2] in (["calendar"], ["offer"], ["hold"]):
+            said = []
+    assert beyond
+    return data
+
+
+def unseen(data):
+    """The same list. It stops unless all else that is printed is the same without the calls for the coming slots, but for the number of the call."""
+    others = b"".join(record + b"\r\n" for record in data.split(b"\r\n")[:-1] if not record.startswith(b"coming"))
+    assert [told for told in answers(data) if not told[0].startswith(b"coming,") and told != [b"refused,23"]] == answers(others)
+    return data
+
+
+QUEUED = {
+    "nothing": {7: (), 8: (), 9: ()}, "urgent": {7: (1,), 8: (48,), 9: (), 10: (20,)}, "long": {7: (97,), 8: (), 9: (49,), 10: (240,)},
+    "both": {7: (1, 97), 8: (48,), 9: (), 10: (240, 20)},
+}
+CALENDARS = {
+    "no_owner": {}, "some_owners": {0: 8, 5: 9, 6: 7, 7: 7, 12: 9, 23: 7}, "every_second_owned": {p: 7 for p in range(0, POSITIONS, 2)},
+    "all_owned_but_one": {p: 7 + p % 3 for p in range(POSITIONS) if p != 11}, "all_owned_but_the_coming_one": {p: 9 for p in range(POSITIONS) if p != 3},
+    "all_owned_but_the_last_one": {p: 8 for p in range(POSITIONS) if p != 2},
+}
+PAST = "coming,1024"
+
+
+def coming():
+    """Who sends in the coming slots: all queues and calendars, beside messages that are outside the queues, and the largest numbers."""
+    yield "example_of_coming", unseen(lines(
+        "3,1,7,8,9", calendar({3: 9}), "offer,7,48", "offer,8,20", "offer,9,97", "slot,1,2,3", "slot,1,1,1", "offer,7,1", "coming,8", "slot,1,1,1", "coming,8", "coming,0", "slot,1,1,1",
+        "coming,3", *["slot,1,1,1"] * 3, "coming,1", "show"))
+    for queue, sizes in QUEUED.items():
+        for name, owned in CALENDARS.items():
+            if queue in ("nothing", "both") or name in ("no_owner", "all_owned_but_one"):
+                silent = slot([1] * len(sizes))
+                watched = [text for w in (26, 9, 2, 1) for text in ("coming,%d" % w, silent)]
+                most = [PAST] if name in ("some_owners", "all_owned_but_one") else []
+                yield "coming_of_%s_with_%s" % (queue, name), unseen(foretold(filled(
+                    1, sizes, calendar(owned), "show", "coming,1", "coming,24", "coming,25", *most, "show", *watched, *[silent] * 30, "coming,24", silent, "coming,300",
+                    *[silent] * (12 if len(owned) < 20 else 300), "show")))
+    for n in (2, 3, 8):
+        yield "coming_in_%d_groups" % n, unseen(foretold(filled(
+            n, QUEUED["both"], calendar(CALENDARS["some_owners"]), "show", "coming,30", slot([1] * 4), "coming,1", "coming,24", *[slot([1] * 4)] * 40, "coming,2", slot([1] * 4), "show")))
+    for position in (0, 1, 22, 23):
+        before = [slot([1] * 4)] * ((position - 3) % POSITIONS)
+        yield "coming_from_position_%d" % position, unseen(foretold(filled(
+            1, QUEUED["both"], calendar({p: 9 for p in range(POSITIONS) if p != position}), *before, "show", "coming,24", "coming,25", "coming,48", calendar({0: 7, 22: 8, 23: 8}), "show",
+            "coming,30", *[slot([1] * 4)] * 30, "coming,60", *[slot([1] * 4)] * 4)))
+    silent = slot([1] * 4)
+    yield "coming_while_calendars_are_set", unseen(filled(
+        1, QUEUED["both"], CLEARED, "coming,26", calendar({4: 9, 5: 7}), "coming,26", silent, calendar({4: 8}), "coming,26", silent, CLEARED, "coming,26", calendar({7: 11}), "coming,26",
+        entries_of([7] * 24), "coming,26", *[silent] * 3, calendar({p: 10 for p in range(POSITIONS) if p != 8}), "coming,26", silent, "coming,26", "show"))
+    yield "coming_again_and_again", unseen(filled(
+        1, QUEUED["both"], calendar({4: 9}), *["show", "coming,12"] * 3, "coming,24", "coming,1", "coming,12", silent, *["coming,12"] * 3, "show", *[silent, "coming,5", "coming,5"] * 12))
+    for name, *calls in (pair for both in paired() for pair in both):
+        yield "coming_beside_" + name, unseen(lines(
+            "2,2,7,8,9,10", *calls, "show", "coming,12", calendar({p: 7 for p in range(0, POSITIONS, 3)}), "coming,12", *[PARTED, "coming,7"] * 3, *[PARTED] * 6, "coming,3"))
+    # each condition at once: 7 and 9 urgent, 8 and 9 long; 10 and 11 asked in group 1, 14 in group 2, 12 and 13 resolving; 15 and 16 held and fresh
+    ten = range(7, 17)
+    picks = slot((1, 2, 3, 1, 1, 2, 2, 1, 1, 1))
+    yield "coming_beside_every_condition", unseen(lines(
+        start(3, 2, ten), calendar({p: 16 for p in range(23)}), "offer,7,1", "offer,8,240", "offer,9,48", "offer,9,97", *[picks] * 4, "coming,24", *["offer,%d,1" % i for i in range(10, 14)],
+        picks, "coming,24", "offer,14,60", picks, picks, "hold,15,1", "offer,15,97", "offer,16,1", "hold,16,240", "show", "coming,24", CLEARED, "coming,24", calendar({9: 16, 10: 9, 12: 14}),
+        "show", "coming,24", PAST, "show", *[slot((1, 2, 3, 1, 2, 1, 2, 3, 1, 2)), "coming,24"] * 8, "commit,15,short", "coming,12", "withdraw,16,long", "coming,12", "show",
+        *[slot((1, 2, 3, 1, 2, 1, 2, 3, 1, 2))] * 12, "coming,12", "show"))
+    yield "coming_between_an_open_slot_and_its_row", unseen(shown(TWO, "offer,7,1", "coming,3", "slot,1,1", "coming,3", "slot,1,1", "coming,3", "slot,1,1"))
+    yield "coming_between_a_collision_and_its_row", unseen(shown(TWO, "offer,7,1", "offer,8,97", "slot,1,1", "coming,3", "slot,1,2", "coming,3", "slot,1,1", "coming,3", *["slot,1,1", "coming,3"] * 4))
+    yield "coming_while_a_long_message_is_sent", unseen(lines(
+        "2,3,7,8", "offer,7,145", *["slot,1,1", "coming,5"] * 3, "offer,8,1", *["slot,1,1", "coming,5"] * 2, calendar({5: 7, 6: 7}), *["slot,1,1", "coming,5"] * 4, "show"))
+    # the number beyond the list, beyond a calendar's rounds, and beyond 65,535
+    yield "coming_of_the_longest_message", unseen(lines(
+        "2,1,923", "offer,923,12240", "slot,1", "slot,1", "coming,1", "coming,24", "coming,253", "coming,254", "coming,255", "coming,256", *["slot,1"] * 250, "show",
+        *["coming,6", "slot,1"] * 5))
+    few = {7 + k: (12240,) for k in range(8)}
+    yield "coming_of_eight_of_the_longest", filled(
+        1, few, CLEARED, "coming,24", PAST, calendar({p: 7 for p in range(12)}), "coming,24", calendar({p: 7 + p % 8 for p in range(POSITIONS) if p != 1}), PAST, "show",
+        *[slot(range(1, 9))] * 24, "coming,25", "show")
+    # 2,731 places and one free position: 65,535 slots and 65,536
+    eleven = {7 + k: (12240,) if k < 10 else (8688,) for k in range(11)}
+    yield "coming_about_65536", filled(1, eleven, *[text for p in (17, 18) for text in (calendar({q: 7 for q in range(POSITIONS) if q != p}), "coming,16")], "show")
+    everyone = {index: (48, 12240) for index in MANY}
+    yield "coming_of_full_queues", filled(1, everyone, "show", CLEARED, PAST, "coming,65", "show", BY_ROW, "coming,64")
+    yield "coming_of_full_queues_and_23_owned", filled(
+        1, everyone, calendar({p: MANY[7 * p % 64] for p in range(POSITIONS) if p != 16}), PAST, calendar({p: MANY[11 * p % 64] for p in range(0, POSITIONS, 2)}), PAST, BY_COLUMN, "coming,24")
+    # lines of every length up to the longest, more of them than a buffer holds
+    yield "coming_many_times", filled(
+        1, {index: (48, 336) for index in MANY}, calendar({p: MANY[13 * p % 64] for p in range(0, POSITIONS, 5)}), *["coming,%d" % w for w in range(1024, 600, -19)], "show")
+    yield "coming_with_leading_zeros", lines(TWO, "coming,00001", "coming,002", "coming,00024", "coming,01024", "coming,00000", "coming,01025", "show")
+    yield "last_coming_without_cr_lf", lines(TWO, "offer,7,97", "slot,1,1", "slot,1,1") + b"coming,3"
+
+
+def refused_coming():
+    """Number 23, which alters nothing, and records that break the form."""
+    yield "number_23", lines(TWO, *["coming,%d" % w for w in (0, 1025, 1026, 2048, 9999, 10000, 65534, 65535)], "show", "coming,1", "coming,1024", "slot,1,1", "coming,1025", "coming,0")
+    yield "number_23_beside_queues", unseen(filled(
+        1, QUEUED["both"], calendar(CALENDARS["some_owners"]), "show", "coming,0", "show", "coming,3", "coming,1025", "coming,3", "coming,65535", "show", slot([1] * 4), "coming,0", "coming,3",
+        slot([1] * 4), "show"))
+    for name, record in (
+        ("alone", b"coming"), ("with_a_comma", b"coming,"), ("of_two_numbers", b"coming,1,2"), ("of_two_equal_numbers", b"coming,1,1"), ("with_a_comma_last", b"coming,1,"),
+        ("with_two_commas", b"coming,,1"), ("of_65536", b"coming,65536"), ("of_65537", b"coming,65537"), ("of_66560", b"coming,66560"), ("of_99999", b"coming,99999"),
+        ("of_six_digits", b"coming,000001"), ("of_twenty_digits", b"coming,18446744073709551617"), ("of_a_letter", b"coming,x"), ("of_a_digit_and_a_letter", b"coming,1x"), ("of_hex_digits", b"coming,0x10"),
+        ("with_a_minus", b"coming,-1"), ("with_a_plus", b"coming,+1"), ("with_a_point", b"coming,1.0"), ("with_a_space", b"coming, 1"), ("with_a_space_last", b"coming,1 "),
+        ("with_a_space_for_a_comma", b"coming 1"), ("with_a_semicolon", b"coming;1"), ("with_a_quote", b'coming,"1"'), ("with_a_nul", b"coming,1\0"), ("with_a_high_byte", b"coming,1\xff"),
+        ("of_a_word", b"coming,short"), ("with_a_capital", b"Coming,1"), ("of_capitals", b"COMING,1"), ("with_a_word_too_short", b"comin,1"), ("with_a_word_too_long", b"comings,1"),
+        ("with_another_word", b"commit,1"), ("with_a_comma_first", b",coming,1"), ("with_a_number_before", b"1,coming"), ("of_513_bytes", b"coming," + zeros(506)), ("of_512_bytes", b"coming," + zeros(505)),
+    ):
+        yield "coming_" + name, amid(record)
+    yield "first_is_a_coming", lines("coming,1", TWO, "slot,1,1")
+
+
 def starts():
     """What a start answers, and in which order it is checked."""
     yield "only_the_start", lines(ONE)
@@ -838,10 +1008,14 @@ def drives():
     for stations, m, n, slots in ((1, 2, 2, 240), (7, 3, 1, 240), (64, 8, 3, 120)):
         yield "driven_with_holds_stations_%d_groups_%d" % (stations, n), driven(stations, m, n, slots, holds=True)
     yield "driven_with_calendars_and_holds_stations_7_groups_3", driven(7, 2, 3, 240, calendars=True, holds=True)
+    for stations, m, n, slots in ((1, 2, 1, 160), (2, 3, 3, 200), (7, 2, 1, 320), (7, 3, 3, 320), (16, 5, 8, 240), (64, 8, 2, 120)):
+        yield "driven_with_coming_stations_%d_groups_%d" % (stations, n), driven(stations, m, n, slots, calendars=True, holds=True, coming=True)
 
 
 def cases():
-    for part in (walks, pairs, two_messages, short_among_long, holds, twins, streams, starts, refusals, refused_holds, calendars, broken, broken_holds, drives):
+    for part in (
+        walks, pairs, two_messages, short_among_long, holds, twins, streams, starts, refusals, refused_holds, calendars, broken, broken_holds, drives, coming, refused_coming,
+    ):
         yield from part()
 
 
@@ -850,6 +1024,7 @@ def larger():
     yield "long_input", lines(*long(64, 3000))
     yield "long_output", lines(*long(64, 900, 4))
     yield "many_calls", lines(*long(2, 15000))
+    yield "long_lists_of_coming_slots", lines(*long(64, 400, looks=4))
 
 
 if __name__ == "__main__":

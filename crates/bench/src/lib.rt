@@ -1,7 +1,8 @@
 // What the benchmark calls: channels of 64 stations under load, with calls repeated on the state as it is, so that the cost of one call is
-// a difference of two runs; and the test of a sound table on tables of each kind.
+// a difference of two runs; and, on tables of each kind, the test of a sound table and who sends in the coming slots.
 mod kinds;
 
+use coming_rules::ComingAnswer;
 use kinds::table_of;
 use local_channel::LocalChannel;
 use minislot::Feedback;
@@ -14,7 +15,9 @@ use runs_arrivals::ARRIVES;
 use runs_arrivals::draw;
 use runs_arrivals::picks_of;
 use runs_arrivals::size;
+use runs_tables::foreseen;
 use runs_tables::index_of;
+use runs_tables::least;
 use runs_tables::offered;
 use runs_tables::slotted;
 use runs_tables::started;
@@ -152,6 +155,65 @@ pub extern "C" fn bench_check(kind: u64, groups: u8, times: u64) -> u64 {
     let wire = table.wire;
     checks_again(stations, wire, times)
 }
+
+// ---- who sends in the coming slots
+
+fn digest_of_coming(answer: ComingAnswer) -> u64 {
+    match answer {
+        ComingAnswer::Until(slots) => slots as u64,
+        ComingAnswer::Refused(number) => number as u64 + 1000000,
+    }
+}
+
+// An entry of a list, so that each is looked at some time.
+fn entry(list: &[u16], i: u64) -> u16 {
+    let at = (i % 1024) as usize;
+    if at < list.len() { list[at] } else { 0 }
+}
+
+// The same call again.
+fn coming_again(c: LocalChannel, list: &mut [u16], times: u64) -> u64 {
+    let mut d: u64 = 0;
+    let mut i: u64 = 0;
+    while i < times {
+        let answer = foreseen(c, list);
+        d = plus(d, digest_of_coming(answer));
+        d = plus(d, entry(list, i) as u64);
+        i += 1;
+    }
+    d
+}
+
+// Room for 65 records: those of a table, and its last one again.
+fn room_of(stations: [Station; 64]) -> [Station; 65] {
+    let mut room = [stations[63]; 65];
+    let mut k: usize = 0;
+    while k < 64 {
+        room[k] = stations[k];
+        k += 1;
+    }
+    room
+}
+
+// Who sends in so many of the coming slots, up to 1,024, of a table of one kind, so many times.
+#[no_mangle]
+pub extern "C" fn bench_coming(kind: u64, groups: u8, slots: u64, times: u64) -> u64 {
+    let table = table_of(kind, groups);
+    let first = table.stations;
+    let wire = table.wire;
+    let stations = room_of(first);
+    let mut space = [0u16; 1024];
+    let list: &mut [u16] = &mut space;
+    let end = least((slots % 1025) as usize, list.len());
+    let c = LocalChannel {
+        stations,
+        count: 64,
+        wire,
+    };
+    coming_again(c, &mut list[0..end], times)
+}
+
+// ---- minislots and words
 
 // What is read of a minislot, as a number.
 fn heard(word: u16) -> u64 {

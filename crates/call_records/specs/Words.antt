@@ -1,23 +1,13 @@
--- The word that a record of `rehearse` begins with: `offer,`, `hold,`, `slot,` or `calendar,` with numbers after it, `commit,` or
--- `withdraw,` with a number and a word after it, or `slot` or `show` alone. Bytes are numbers: letters are ASCII, the comma is 44.
+-- The word that a record of `rehearse` begins with: `offer,`, `hold,`, `slot,`, `calendar,` or `coming,` with numbers after it, `commit,`
+-- or `withdraw,` with a number and a word after it, or `slot` or `show` alone. Bytes are numbers: letters are ASCII, the comma is 44.
 -- Assumes nothing.
-use mathlib.Core.Bool.{Bool, true, false, cond, _&&_}
+use mathlib.Core.Bool.{cond}
 use mathlib.Core.List.{List, [], _∷_}
 use Prim.Native.Nat.{ℕ}
-use lib.Dec.{eqb}
-use lib.ListN.{length}
+use Rattle.prefixes.specs.Prefix.{prefixed, isWord}
 use Rattle.call_records.specs.declared.Kind.{Kind}
-use Rattle.call_records.specs.declared.Kind.the-variants.{Offer, Hold, Commit, Withdraw, Slot, BareSlot, Calendar, Show, Unknown}
-
--- whether a list begins with a word
-unfoldable pub prefixed : List ℕ → List ℕ → Bool
-prefixed [] l = true
-prefixed (w ∷ word) [] = false
-prefixed (w ∷ word) (b ∷ l) = eqb b w && prefixed word l
-
--- whether it is the word
-unfoldable pub isWord : List ℕ → List ℕ → Bool
-isWord word l = eqb (length l) (length word) && prefixed word l
+use Rattle.call_records.specs.declared.Kind.the-variants.{Offer, Hold, Commit, Withdraw}
+use Rattle.call_records.specs.declared.Kind.the-variants.{Slot, BareSlot, Calendar, Show, Coming, Unknown}
 
 -- `offer` and `slot`
 abbrev pub offerWord : List ℕ
@@ -65,15 +55,28 @@ calendarStart = 99 ∷ 97 ∷ 108 ∷ 101 ∷ 110 ∷ 100 ∷ 97 ∷ 114 ∷ 44 
 abbrev pub showWord : List ℕ
 showWord = 115 ∷ 104 ∷ 111 ∷ 119 ∷ []
 
+-- `coming` and `coming,`
+abbrev pub comingWord : List ℕ
+comingWord = 99 ∷ 111 ∷ 109 ∷ 105 ∷ 110 ∷ 103 ∷ []
+
+abbrev pub comingStart : List ℕ
+comingStart = 99 ∷ 111 ∷ 109 ∷ 105 ∷ 110 ∷ 103 ∷ 44 ∷ []
+
+-- a record that writes a message record
+unfoldable pub writingKindOf : List ℕ → Kind
+writingKindOf bytes =
+    cond (prefixed offerStart bytes) Offer
+    (cond (prefixed holdStart bytes) Hold
+    (cond (prefixed commitStart bytes) Commit
+    (cond (prefixed withdrawStart bytes) Withdraw
+    Unknown)))
+
 -- WHICH CALL A RECORD ASKS FOR
 unfoldable pub kindOf : List ℕ → Kind
 kindOf bytes =
     cond (prefixed slotStart bytes) Slot
-    (cond (prefixed offerStart bytes) Offer
-    (cond (prefixed holdStart bytes) Hold
-    (cond (prefixed commitStart bytes) Commit
-    (cond (prefixed withdrawStart bytes) Withdraw
     (cond (prefixed calendarStart bytes) Calendar
+    (cond (prefixed comingStart bytes) Coming
     (cond (isWord showWord bytes) Show
     (cond (isWord slotWord bytes) BareSlot
-    Unknown)))))))
+    (writingKindOf bytes)))))

@@ -7,14 +7,18 @@
 // The cases come from standard input, a line each, on the table that the line before left. A line `start`, `offer`, `hold`, `commit`,
 // `withdraw`, `slot` or `calendar` has a call's arguments (of a commit or a withdrawal the index, and 1 for the short record or 2 for the
 // long one; a calendar's 24 entries); it is written, then the answer, then the table as the call left it. An owned turn has the owner
-// behind it. The indexes of a start come from the line `indexes` or `from` before it (after the last of them, each is one more than the
-// one before), and the picks of a slot from the line `picks`. Other lines alter the table and write nothing: `blank` (so many records that
-// stand for no station), `count` (another number of records lent), `station` (its place and index, the short message's condition and the
-// long one's, with the counters of the line `counters` before it: m, n, the next group, H, N, eight RQ, eight Open marks; and the position
-// and the calendar's entries of the line `position` after that), `minislot` (group, minislot, word and count). `table` writes the table,
-// `show` the position and the owners of each of its records; `keep` keeps the table, and `again` comes back to the one that was kept.
+// behind it. A line `coming` has the number of slots that it is asked who sends in, 1,030 at most, which is the length of the list that is
+// lent, with 1000, 1001, .. in it; it is written, then the answer, then the list as the call left it. The indexes of a start come from the
+// line `indexes` or `from` before it (after the last of them, each is one more than the one before), and the picks of a slot from the line
+// `picks`. Other lines alter the table and write nothing: `blank` (so many records that stand for no station), `count` (another number of
+// records lent), `station` (its place and index, the short message's condition and the long one's, with the counters of the line
+// `counters` before it: m, n, the next group, H, N, eight RQ, eight Open marks; and the position and the calendar's entries of the line
+// `position` after that), `minislot` (group, minislot, word and count). `table` writes the table, `show` the position and the owners of
+// each of its records; `keep` keeps the table, and `again` comes back to the one that was kept.
+mod coming;
 mod lines;
 
+use coming::coming;
 use libc::STDIN_FILENO;
 use lines::owned_lines;
 use lines::table_lines;
@@ -183,11 +187,16 @@ fn after(s: State, word: u64) -> State {
     s
 }
 
-// A call: its line, the answer and the table after.
+// A call: its line, the answer and the table after, or, of the eighth, the list.
 fn call(s: State, line: &[u8], kind: u64, head: Group) -> State {
     let mut s = s;
     text(line);
     text(b"\n");
+    if kind == 8 {
+        let last = s.last;
+        coming(last, number(head, 1) as usize);
+        return s;
+    }
     let c = called(s, kind, head);
     table_lines(c);
     s.last = c;
@@ -198,7 +207,11 @@ fn call(s: State, line: &[u8], kind: u64, head: Group) -> State {
 fn case(s: State, line: &[u8]) -> State {
     let mut s = s;
     let head = group_at(line, 0);
-    let kind = which(line, 0, b"start offer slot calendar hold commit withdraw ");
+    let kind = which(
+        line,
+        0,
+        b"start offer slot calendar hold commit withdraw coming ",
+    );
     if kind != 0 {
         return call(s, line, kind, head);
     }

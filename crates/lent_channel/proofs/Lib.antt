@@ -1,4 +1,4 @@
 -- What the four walks over the lent room share, and the law by which the calls for any count cite them.
-mod Values
+pub mod Values
 mod Callees
-mod Counts
+pub mod Counts

@@ -1,4 +1,5 @@
-// A channel that its caller holds by value: room for its records, and the wire; and its start. Its other calls stand in crates of their own.
+// A channel that its caller holds by value: room for its records, and the wire; and its start. Its other calls stand in crates of
+// their own.
 use lent_channel::start_lent;
 use rules::Answer;
 use rules::StartAnswer;

@@ -8,8 +8,8 @@ ghost use Rattle.rules.specs.Numbers.{callTold};
 ghost use Rattle.channel_rules.specs.Answered.{channelWriteToldOf};
 ghost use Rattle.local_channel.specs.Local.{lentBy, localWriteOf};
 
-// Writes a message record of the station of an index: an offer, a hold, a commit or a withdrawal, by `channel_write::write` on the first `count`
-// records.
+// Writes a message record of the station of an index: an offer, a hold, a commit or a withdrawal, by `channel_write::write` on the
+// first `count` records.
 pub fn write(c: LocalChannel, index: u16, w: Writing) -> LocalCalled
     ensures { λ r. ⌜
         (r ≡ localWriteOf c index w)

@@ -50,7 +50,7 @@ use Rattle.rules.specs.StationCalls.{slotNumberOf, slotOf, refusedSlot}
 use Rattle.rules.specs.Writing.{recordIn, recordFor, isFree, isHeld}
 use Rattle.rules.specs.Writing.{newNumberOf, heldNumberOf, writingNumberAt, writes, writingNumberOf, writingTotalOf}
 use Rattle.rules.specs.Queueing.{stepOneOf}
-use Rattle.rules.proofs.LimitLaws.{Within, station-in}
+use Rattle.rules.proofs.LimitLaws.{Within, between-bounds, station-in}
 use Rattle.rules.proofs.Refusals.{test-passed}
 use Rattle.rules.proofs.Walking.{feedbacks-short}
 use Rattle.channel_rules.specs.Soundness.{soundTable, tableCounters, positionOf, isOnTable, entriesOn}
@@ -59,6 +59,7 @@ use Rattle.channel_rules.specs.ChannelCalls.{Channel, ChannelResult, hasStation
 use Rattle.channel_rules.specs.ChannelCalls.{blankRow, heardRow, feedbackHeard, slotsOf, slotsHeard, outcomeHeard, slotThrough, channelSlotNumberOf, channelSlotOf}
 use Rattle.channel_rules.specs.ChannelCalls.{calendarSet, channelCalendarNumberOf, channelCalendarOf}
 use Rattle.channel_rules.specs.ChannelCalls.{DataSent, speaks, dataIn, dataSent, loneIndex, loneSegment, deliveredNow}
+use Rattle.channel_rules.proofs.SoundMeans.{sound-says}
 use Rattle.decimals.specs.Decimal.{digitsOf}
 use Rattle.decimals.specs.Printing.{recordOf}
 use Rattle.call_records.specs.Words.{offerWord, holdWord, commitWord, withdrawWord, slotWord, calendarWord}
@@ -320,10 +321,20 @@ heard-few ch h =
     let row = getD (ch .wire) (tableCounters (ch .stations) .next - 1) blankRow .minislots in
     omega (arith, feedbacks-short (wordsOf (take m row)) (countsOf (take m row)), length-map (take m row) (λ (s : Minislot). s .word), length-take m row)
 
-slot-small : (ch : Channel) → SoundChannel ch → (picks : List ℕ) → AnswerSmall (channelSlotOf ch picks .answer)
-unfolding channelSlotOf outcomeBy
-slot-small ch s picks =
+-- a channel that passes a call's first two tests
+pub tested : (ch : Channel) → hasStations (ch .stations) ≡ true → soundTable (ch .stations) (ch .wire) ≡ true → SoundChannel ch
+tested ch some sound =
+    let n = between-bounds 1 (length (ch .stations)) 64 some in
+    record { some = n .0; few = n .1; sound = sound-says (ch .stations) (ch .wire) sound }
+
+-- of any channel: the slot of one that is not sound is refused
+pub slot-small : (ch : Channel) (picks : List ℕ) → AnswerSmall (channelSlotOf ch picks .answer)
+unfolding channelSlotOf channelSlotNumberOf outcomeBy
+slot-small ch picks =
     by-both ch (channelSlotNumberOf ch picks) (slotThrough ch (outcomeHeard ch) (slotsHeard ch picks)) (slot-low ch picks) (λ z.
+    let p₁ = test-passed (hasStations (ch .stations)) 14 _ refl z in
+    let p₂ = test-passed (soundTable (ch .stations) (ch .wire)) 18 _ refl (p₁ .1) in
+    let s = tested ch (p₁ .0) (p₂ .0) in
     let sent = dataSent (slotsHeard ch picks) in
     let p = all-send (wordsOf (heardRow ch)) (countsOf (heardRow ch)) (ch .stations) picks (s .sound .within) in
     let l = lone sent (p .1) in
@@ -343,13 +354,13 @@ slot-small ch s picks =
 
 pub call-small : (ch : Channel) → SoundChannel ch → (call : Call) → AnswerSmall (channelCall ch call .answer)
 call-small ch s (Write index w) = write-small ch s index w
-call-small ch s (Slot picks) = slot-small ch s picks
+call-small ch s (Slot picks) = slot-small ch picks
 call-small ch s (Calendar entries) = calendar-small ch entries
 
 -- ---- THE LINE
 
 -- of one number
-number-line : (k : ℕ) (word : List ℕ) (n : ℕ) → In64 k → length word ≤ 20 → In64 n → length (recordOf (digitsOf k ∷ word ∷ digitsOf n ∷ [])) ≤ 233
+pub number-line : (k : ℕ) (word : List ℕ) (n : ℕ) → In64 k → length word ≤ 20 → In64 n → length (recordOf (digitsOf k ∷ word ∷ digitsOf n ∷ [])) ≤ 233
 number-line k word n hk short hn =
     let l = line-within (digitsOf k ∷ word ∷ digitsOf n ∷ []) (omega (arith, number-short k hk, short, number-short n hn)) in
     omega (arith, l)

@@ -1,15 +1,15 @@
 -- No record of `rehearse` prints more than 24,576 bytes, whatever it is, and its number stays in 64 bits: so `rehearse` is lawful, and what
 -- holds of any lawful program holds of it. A refusal's number is at most 19; of a channel that began with a start that went through the line of
--- a call has at most 233 bytes and all that is shown at most 23,854.
+-- a call has at most 233 bytes, that of who sends in the coming slots at most 6,194, and all that is shown at most 23,854.
 -- Assumes nothing.
 use mathlib.Core.Bool.{Bool, true, false, cond, _&&_}
 use mathlib.Core.Path.{_≡_, refl, sym, ap, subst}
 use mathlib.Core.List.{List, [], _∷_, map, append-nil}
-use Prim.Native.Nat.{ℕ, _-_, _<_, _≤_}
+use Prim.Native.Nat.{ℕ, _-_, _<_, _≤_, min}
 use native.Mathlib.Omega.{arith}
 use borrow.Author.Tests.{ltb-true}
 use lib.Dec.{ltb, leb, eqb}
-use lib.ListN.{length, take, drop}
+use lib.ListN.{length, take, drop, replicate}
 use Rattle.listlaws.specs.Lists.{each, eachPair}
 use Rattle.fields.specs.Fields.{every, parts, numeral}
 use Rattle.number_lists.specs.NumberList.{isNumber, brokenList, listWith, listOf}
@@ -23,7 +23,9 @@ use Rattle.write_fields.specs.declared.WriteFields.{WriteFields}
 use Rattle.write_fields.specs.declared.WriteFields.the-variants.{At, Broken}
 use Rattle.write_fields.specs.WriteFields.{newBy, heldBy}
 use Rattle.calendar_fields.specs.CalendarFields.{brokenCalendar, calendarIn}
+use Rattle.coming_fields.specs.ComingFields.{brokenComing, comingIn}
 use Rattle.answer_lines.specs.AnswerLines.{answerLine}
+use Rattle.coming_lines.specs.ComingLines.{comingLine}
 use Rattle.show_lines.specs.ShowLines.{showLines}
 use Rattle.refusals.proofs.RefusalLaws.{refusal-within}
 use Rattle.programs.proofs.Whole.{whole-input-written}
@@ -42,11 +44,12 @@ use Rattle.rules.specs.Starting.{inRanges}
 use Rattle.rules.specs.StationCalls.{isIndex}
 use Rattle.places.specs.Places.{differ}
 use Rattle.channel_rules.specs.ChannelCalls.{Channel, refusedBeginning, newChannel, channelStartNumberOf, channelStartOf, channelCall}
+use Rattle.coming_rules.specs.Coming.{comingOf}
 use Rattle.local_channel.specs.declared.LocalChannel.{LocalChannel}
 use Rattle.local_channel.specs.Local.{lentBy, localAfter, localCalled, localStartOf, localWriteOf, localSlotOf, localCalendarOf}
 use Rattle.rehearsing.specs.declared.Rehearsal.{Rehearsal}
 use Rattle.rehearsing.specs.Rehearsing.{blankChannel, countersOf, indexesOf, startedBy, startedResult, startOf, startResult}
-use Rattle.rehearsing.specs.Rehearsing.{calledResult, writeResult, slotResult, bareResult, calendarResult, showResult, callBy, rehearseRecord}
+use Rattle.rehearsing.specs.Rehearsing.{calledResult, writeResult, slotResult, bareResult, calendarResult, comingWith, comingResult, showResult, callBy, rehearseRecord}
 use Rattle.rehearsing.specs.Rehearse.{rehearseProgram}
 use Rattle.reads.specs.Lawful.{Allowed, Lawful}
 use Rattle.reads.proofs.InReads.{in-pieces}
@@ -54,6 +57,7 @@ use Rattle.rehearse_reads.specs.Rehearsed.{RehearseInPieces, RehearseWho
 use Rattle.rehearse_reads.proofs.LineBounds.{In64}
 use Rattle.rehearse_reads.proofs.ShowBounds.{show-within}
 use Rattle.rehearse_reads.proofs.AnswerBounds.{call-small, answer-line}
+use Rattle.rehearse_reads.proofs.ComingBounds.{coming-line}
 use Rattle.rehearse_reads.proofs.GoodKept.{Begun, begun-sound, first-lent, begun-within, call-kept, start-begun}
 
 -- what holds of all that `rehearse` may come to know
@@ -88,6 +92,16 @@ calendar-low ps = go (eqb (length ps) 24 && every (isNumber 65535) ps)
     go : (b : Bool) → cond b (record { number = 0; entries = map numeral ps }) brokenCalendar .number ≤ 19
     go true = omega arith
     go false = omega arith
+
+coming-low : (ps : List (List ℕ)) → comingIn ps .number ≤ 19
+unfolding comingIn
+coming-low [] = omega arith
+coming-low (p ∷ []) = go (isNumber 65535 p)
+  where
+    go : (b : Bool) → cond b (record { number = 0; w = numeral p }) brokenComing .number ≤ 19
+    go true = omega arith
+    go false = omega arith
+coming-low (p ∷ q ∷ ps) = omega arith
 
 channel-start-low : (count m n : ℕ) (indexes : List ℕ) → channelStartNumberOf count m n indexes ≤ 19
 unfolding channelStartNumberOf
@@ -181,6 +195,20 @@ module _ (r : Rehearsal) (good : Good r) where
     unfolding calendarResult localCalendarOf
     calendar-fits ps = let fields = calendarIn ps in by-both (fields .number) _ (calendar-low ps) (called-fits (Calendar (fields .entries)))
 
+    -- the channel stays as it was
+    asked-fits : (w : ℕ) → Fits (comingWith r w)
+    asked-fits w =
+        let coming = comingOf (lentBy (r .channel)) (replicate (min w 1025) 0) in
+        let k = r .place - 1 in
+        let l = coming-line (lentBy (r .channel)) (replicate (min w 1025) 0) k (omega (arith, good .0)) in (
+          (next-place (r .place) (good .0), λ z. b),
+          omega (arith, l, ap length (append-nil (comingLine k (coming .answer) (coming .list)))),
+        )
+
+    coming-fits : (ps : List (List ℕ)) → Fits (comingResult r (comingIn ps))
+    unfolding comingResult
+    coming-fits ps = let fields = comingIn ps in by-both (fields .number) _ (coming-low ps) (asked-fits (fields .w))
+
     show-fits : Fits (showResult r)
     unfolding showResult
     show-fits =
@@ -199,6 +227,7 @@ module _ (r : Rehearsal) (good : Good r) where
     call-fits bytes kind.BareSlot = bare-fits
     call-fits bytes kind.Calendar = calendar-fits (parts (drop 9 bytes))
     call-fits bytes kind.Show = show-fits
+    call-fits bytes kind.Coming = coming-fits (parts (drop 7 bytes))
     call-fits bytes kind.Unknown = ends-fit 19 (omega arith)
 
   record-fits : (bytes : List ℕ) → Fits (rehearseRecord r bytes)

@@ -8,6 +8,7 @@ use rehearse_calls::bare_slot;
 use rehearse_calls::calendar_record;
 use rehearse_calls::slot_record;
 use rehearse_calls::write_record;
+use rehearse_coming::coming_record;
 use rehearse_starts::start_record;
 use rehearsing::Next;
 use rehearsing::Rehearsal;
@@ -70,6 +71,7 @@ pub fn rehearse_record(r: Rehearsal, bytes: &[u8], next: usize, out: &mut [u8], 
         Kind::BareSlot => bare_slot(r, next, out, at),
         Kind::Calendar => calendar_record(r, bytes, next, out, at),
         Kind::Show => show_record(r, next, out, at),
+        Kind::Coming => coming_record(r, bytes, next, out, at),
         Kind::Unknown => end_with(r, 19, next, out, at),
     }
 }

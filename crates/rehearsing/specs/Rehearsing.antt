@@ -3,7 +3,7 @@
 -- other. Assumes nothing.
 use mathlib.Core.Bool.{cond}
 use mathlib.Core.List.{List, [], _∷_}
-use Prim.Native.Nat.{ℕ, _-_}
+use Prim.Native.Nat.{ℕ, _-_, min}
 use lib.Dec.{ltb}
 use lib.ListN.{take, drop, replicate}
 use Rattle.fields.specs.Fields.{parts}
@@ -20,7 +20,10 @@ use Rattle.write_fields.specs.declared.WriteFields.the-variants.{At, Broken}
 use Rattle.write_fields.specs.WriteFields.{newBy, heldBy}
 use Rattle.calendar_fields.specs.declared.CalendarFields.{CalendarFields}
 use Rattle.calendar_fields.specs.CalendarFields.{calendarIn}
+use Rattle.coming_fields.specs.declared.ComingFields.{ComingFields}
+use Rattle.coming_fields.specs.ComingFields.{comingIn}
 use Rattle.answer_lines.specs.AnswerLines.{answerLine}
+use Rattle.coming_lines.specs.ComingLines.{comingLine}
 use Rattle.show_lines.specs.ShowLines.{showLines}
 use Rattle.programs.specs.Places.{placeFollowing}
 use Rattle.programs.specs.Program.{Result, Goes, Ends}
@@ -32,10 +35,11 @@ use Rattle.rules.specs.Refusing.{byNumber}
 use Rattle.rules.specs.StationCalls.{noStation}
 use Rattle.channel_rules.specs.Soundness.{tableCounters}
 use Rattle.channel_rules.specs.ChannelCalls.{blankWire}
+use Rattle.coming_rules.specs.Coming.{ComingResult, comingOf}
 use Rattle.local_channel.specs.declared.LocalChannel.{LocalChannel}
 use Rattle.local_channel.specs.declared.LocalStarted.{LocalStarted}
 use Rattle.local_channel.specs.declared.LocalCalled.{LocalCalled}
-use Rattle.local_channel.specs.Local.{localStartOf, localWriteOf, localSlotOf, localCalendarOf}
+use Rattle.local_channel.specs.Local.{lentBy, localStartOf, localWriteOf, localSlotOf, localCalendarOf}
 use Rattle.rehearsing.specs.declared.Rehearsal.{Rehearsal}
 
 -- a table of so many records that stand for no station, and a silent wire
@@ -93,6 +97,18 @@ bareResult r = calledResult r (localSlotOf (r .channel) [])
 unfoldable pub calendarResult : Rehearsal → CalendarFields → Result Rehearsal
 calendarResult r fields = byNumber (fields .number) Ends (calledResult r (localCalendarOf (r .channel) (fields .entries)))
 
+-- ---- who sends in the coming slots: the channel stays as it was. A list of w entries is lent, of a room for one entry more than a list
+-- ---- may have, so that any longer list is refused by the call's own number
+
+abbrev pub comingResultBy : Rehearsal → ComingResult → Result Rehearsal
+comingResultBy r coming = Goes (withChannel r (r .channel)) (comingLine (r .place - 1) (coming .answer) (coming .list) ∷ [])
+
+abbrev pub comingWith : Rehearsal → ℕ → Result Rehearsal
+comingWith r w = comingResultBy r (comingOf (lentBy (r .channel)) (replicate (min w 1025) 0))
+
+unfoldable pub comingResult : Rehearsal → ComingFields → Result Rehearsal
+comingResult r fields = byNumber (fields .number) Ends (comingWith r (fields .w))
+
 -- ---- to be shown the channel
 
 unfoldable pub showResult : Rehearsal → Result Rehearsal
@@ -100,8 +116,8 @@ showResult r =
     let c = r .channel in
     Goes (withChannel r c) (showLines (r .place - 1) (countersOf c) (take (c .count) (c .stations)) (c .wire))
 
--- ---- a record after the first, by the word that it begins with; `offer,` has 6 bytes, `hold,` 5, `commit,` 7, `withdraw,` 9, `slot,` 5
--- ---- and `calendar,` 9
+-- ---- a record after the first, by the word that it begins with; `offer,` has 6 bytes, `hold,` 5, `commit,` 7, `withdraw,` 9, `slot,` 5,
+-- ---- `calendar,` 9 and `coming,` 7
 
 abbrev pub callBy : Rehearsal → List ℕ → Kind → Result Rehearsal
 callBy r bytes kind.Offer = writeResult r (newBy Offer (offerIn (parts (drop 6 bytes))))
@@ -112,6 +128,7 @@ callBy r bytes kind.Slot = slotResult r (listOf 255 (parts (drop 5 bytes)))
 callBy r bytes kind.BareSlot = bareResult r
 callBy r bytes kind.Calendar = calendarResult r (calendarIn (parts (drop 9 bytes)))
 callBy r bytes kind.Show = showResult r
+callBy r bytes kind.Coming = comingResult r (comingIn (parts (drop 7 bytes)))
 callBy r bytes kind.Unknown = Ends 19
 
 -- A RECORD: the start, and then calls

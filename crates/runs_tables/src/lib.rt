@@ -1,4 +1,5 @@
 // Tables and wires by value for the programs that check by running: one with something altered, and one after a call.
+use coming_rules::ComingAnswer;
 use local_channel::LocalCalled;
 use local_channel::LocalChannel;
 use local_channel::LocalStarted;
@@ -67,7 +68,7 @@ pub fn started(count: usize, m: u8, n: u8, first: u8) -> LocalChannel {
     r.channel
 }
 
-// The next five say nothing of the answer, so that a program that only runs them carries no contract of a channel along.
+// The next six say nothing of the answer, so that a program that only runs them carries no contract of a channel along.
 
 pub fn begun(c: LocalChannel, m: u8, n: u8, indexes: &[u16]) -> LocalStarted {
     local_channel::start(c, m, n, indexes)
@@ -87,4 +88,9 @@ pub fn calendared(c: LocalChannel, entries: [u16; 24]) -> LocalCalled {
 
 pub fn slotted(c: LocalChannel, picks: &[u8]) -> LocalCalled {
     local_slot::slot(c, picks)
+}
+
+// Who sends in the coming slots: as many as the list has entries.
+pub fn foreseen(c: LocalChannel, list: &mut [u16]) -> ComingAnswer {
+    local_coming::coming(c, list)
 }

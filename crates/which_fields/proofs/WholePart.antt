@@ -12,7 +12,7 @@ use lib.ListN.{length}
 use Rattle.fields.specs.Fields.{onto, parts}
 use Rattle.fields.specs.Steps.{none}
 use Rattle.number_lists.proofs.ListLaws.{and-both}
-use Rattle.call_records.specs.Words.{prefixed, isWord}
+use Rattle.prefixes.specs.Prefix.{prefixed, isWord}
 
 -- a list beside its parts
 abbrev pub Parted : List ℕ → List (List ℕ) → Type 0

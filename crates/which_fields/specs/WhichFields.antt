@@ -6,7 +6,7 @@ use mathlib.Core.List.{List, [], _∷_}
 use Prim.Native.Nat.{ℕ}
 use Rattle.fields.specs.Fields.{numeral}
 use Rattle.number_lists.specs.NumberList.{isNumber}
-use Rattle.call_records.specs.Words.{isWord}
+use Rattle.prefixes.specs.Prefix.{isWord}
 use Rattle.rules.specs.declared.Which.the-variants.{ShortOne, LongOne}
 use Rattle.which_fields.specs.declared.WhichFields.{WhichFields}
 use Rattle.which_fields.specs.declared.WhichFields.the-variants.{Named, Broken}

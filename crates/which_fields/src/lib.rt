@@ -1,7 +1,7 @@
 // Reading the index and the record's name of a commit or a withdrawal from a record of `rehearse`, which is handed over without its CR LF.
-use call_records::is_word;
 use fields::Field;
 use fields::field_at;
+use prefixes::is_word;
 use rules::Which;
 ghost use mathlib.Core.Path.{_≡_};
 ghost use lib.ListN.{drop};

@@ -1,4 +1,4 @@
--- `kind_of` meets its contract: the words are tried in the definition's order. Assumes nothing.
+-- `kind_of` meets its contract: the words are tried in the definition's order, and those of a writing last. Assumes nothing.
 use borrow.Author.Needs.{needs}
 use mathlib.Core.Path.{sym, _∙_}
 use Rattle.call_records.specs.Words.{kindOf}
@@ -44,11 +44,11 @@ returns-3 c =
       sym (c .before .begins-with3 .ensures) ∙ c .if3 .taken,
     )
 
-slice-aggregate-begins-with-4 : tie.Need-slice-aggregate-begins-with-4
-slice-aggregate-begins-with-4 c = search needs
+slice-aggregate-is-word : tie.Need-slice-aggregate-is-word
+slice-aggregate-is-word c = search needs
 
-begins-with-requires-4 : tie.Need-begins-with-requires-4
-begins-with-requires-4 c κs = search needs
+is-word-requires : tie.Need-is-word-requires
+is-word-requires c κs = search needs
 
 returns-4 : tie.Need-returns-4
 unfolding kindOf
@@ -57,61 +57,7 @@ returns-4 c =
       sym (c .before .before .before .before .before .before .before .before .before .before .begins-with .ensures) ∙ c .before .before .before .before .before .before .before .before .before .if1 .left,
       sym (c .before .before .before .before .before .before .before .begins-with2 .ensures) ∙ c .before .before .before .before .before .before .if2 .left,
       sym (c .before .before .before .before .begins-with3 .ensures) ∙ c .before .before .before .if3 .left,
-      sym (c .before .begins-with4 .ensures) ∙ c .if4 .taken,
-    )
-
-slice-aggregate-begins-with-5 : tie.Need-slice-aggregate-begins-with-5
-slice-aggregate-begins-with-5 c = search needs
-
-begins-with-requires-5 : tie.Need-begins-with-requires-5
-begins-with-requires-5 c κs = search needs
-
-returns-5 : tie.Need-returns-5
-unfolding kindOf
-returns-5 c =
-    rw (
-      sym (c .before .before .before .before .before .before .before .before .before .before .before .before .before .begins-with .ensures) ∙ c .before .before .before .before .before .before .before .before .before .before .before .before .if1 .left,
-      sym (c .before .before .before .before .before .before .before .before .before .before .begins-with2 .ensures) ∙ c .before .before .before .before .before .before .before .before .before .if2 .left,
-      sym (c .before .before .before .before .before .before .before .begins-with3 .ensures) ∙ c .before .before .before .before .before .before .if3 .left,
-      sym (c .before .before .before .before .begins-with4 .ensures) ∙ c .before .before .before .if4 .left,
-      sym (c .before .begins-with5 .ensures) ∙ c .if5 .taken,
-    )
-
-slice-aggregate-begins-with-6 : tie.Need-slice-aggregate-begins-with-6
-slice-aggregate-begins-with-6 c = search needs
-
-begins-with-requires-6 : tie.Need-begins-with-requires-6
-begins-with-requires-6 c κs = search needs
-
-returns-6 : tie.Need-returns-6
-unfolding kindOf
-returns-6 c =
-    rw (
-      sym (c .before .before .before .before .before .before .before .before .before .before .before .before .before .before .before .before .begins-with .ensures) ∙ c .before .before .before .before .before .before .before .before .before .before .before .before .before .before .before .if1 .left,
-      sym (c .before .before .before .before .before .before .before .before .before .before .before .before .before .begins-with2 .ensures) ∙ c .before .before .before .before .before .before .before .before .before .before .before .before .if2 .left,
-      sym (c .before .before .before .before .before .before .before .before .before .before .begins-with3 .ensures) ∙ c .before .before .before .before .before .before .before .before .before .if3 .left,
-      sym (c .before .before .before .before .before .before .before .begins-with4 .ensures) ∙ c .before .before .before .before .before .before .if4 .left,
-      sym (c .before .before .before .before .begins-with5 .ensures) ∙ c .before .before .before .if5 .left,
-      sym (c .before .begins-with6 .ensures) ∙ c .if6 .taken,
-    )
-
-slice-aggregate-is-word : tie.Need-slice-aggregate-is-word
-slice-aggregate-is-word c = search needs
-
-is-word-requires : tie.Need-is-word-requires
-is-word-requires c κs = search needs
-
-returns-7 : tie.Need-returns-7
-unfolding kindOf
-returns-7 c =
-    rw (
-      sym (c .before .before .before .before .before .before .before .before .before .before .before .before .before .before .before .before .before .before .before .begins-with .ensures) ∙ c .before .before .before .before .before .before .before .before .before .before .before .before .before .before .before .before .before .before .if1 .left,
-      sym (c .before .before .before .before .before .before .before .before .before .before .before .before .before .before .before .before .begins-with2 .ensures) ∙ c .before .before .before .before .before .before .before .before .before .before .before .before .before .before .before .if2 .left,
-      sym (c .before .before .before .before .before .before .before .before .before .before .before .before .before .begins-with3 .ensures) ∙ c .before .before .before .before .before .before .before .before .before .before .before .before .if3 .left,
-      sym (c .before .before .before .before .before .before .before .before .before .before .begins-with4 .ensures) ∙ c .before .before .before .before .before .before .before .before .before .if4 .left,
-      sym (c .before .before .before .before .before .before .before .begins-with5 .ensures) ∙ c .before .before .before .before .before .before .if5 .left,
-      sym (c .before .before .before .before .begins-with6 .ensures) ∙ c .before .before .before .if6 .left,
-      sym (c .before .is-word .ensures) ∙ c .if7 .taken,
+      sym (c .before .is-word .ensures) ∙ c .if4 .taken,
     )
 
 slice-aggregate-is-word-2 : tie.Need-slice-aggregate-is-word-2
@@ -120,32 +66,30 @@ slice-aggregate-is-word-2 c = search needs
 is-word-requires-2 : tie.Need-is-word-requires-2
 is-word-requires-2 c κs = search needs
 
-returns-8 : tie.Need-returns-8
+returns-5 : tie.Need-returns-5
 unfolding kindOf
-returns-8 c =
+returns-5 c =
     rw (
-      sym (c .before .before .before .before .before .before .before .before .before .before .before .before .before .before .before .before .before .before .before .before .before .before .begins-with .ensures) ∙ c .before .before .before .before .before .before .before .before .before .before .before .before .before .before .before .before .before .before .before .before .before .if1 .left,
-      sym (c .before .before .before .before .before .before .before .before .before .before .before .before .before .before .before .before .before .before .before .begins-with2 .ensures) ∙ c .before .before .before .before .before .before .before .before .before .before .before .before .before .before .before .before .before .before .if2 .left,
-      sym (c .before .before .before .before .before .before .before .before .before .before .before .before .before .before .before .before .begins-with3 .ensures) ∙ c .before .before .before .before .before .before .before .before .before .before .before .before .before .before .before .if3 .left,
-      sym (c .before .before .before .before .before .before .before .before .before .before .before .before .before .begins-with4 .ensures) ∙ c .before .before .before .before .before .before .before .before .before .before .before .before .if4 .left,
-      sym (c .before .before .before .before .before .before .before .before .before .before .begins-with5 .ensures) ∙ c .before .before .before .before .before .before .before .before .before .if5 .left,
-      sym (c .before .before .before .before .before .before .before .begins-with6 .ensures) ∙ c .before .before .before .before .before .before .if6 .left,
-      sym (c .before .before .before .before .is-word .ensures) ∙ c .before .before .before .if7 .left,
-      sym (c .before .is-word2 .ensures) ∙ c .if8 .taken,
+      sym (c .before .before .before .before .before .before .before .before .before .before .before .before .before .begins-with .ensures) ∙ c .before .before .before .before .before .before .before .before .before .before .before .before .if1 .left,
+      sym (c .before .before .before .before .before .before .before .before .before .before .begins-with2 .ensures) ∙ c .before .before .before .before .before .before .before .before .before .if2 .left,
+      sym (c .before .before .before .before .before .before .before .begins-with3 .ensures) ∙ c .before .before .before .before .before .before .if3 .left,
+      sym (c .before .before .before .before .is-word .ensures) ∙ c .before .before .before .if4 .left,
+      sym (c .before .is-word2 .ensures) ∙ c .if5 .taken,
     )
 
-returns-9 : tie.Need-returns-9
+writing-kind-requires : tie.Need-writing-kind-requires
+writing-kind-requires c κs = search needs
+
+returns-6 : tie.Need-returns-6
 unfolding kindOf
-returns-9 c =
-    rw (
-      sym (c .before .before .before .before .before .before .before .before .before .before .before .before .before .before .before .before .before .before .before .before .before .before .begins-with .ensures) ∙ c .before .before .before .before .before .before .before .before .before .before .before .before .before .before .before .before .before .before .before .before .before .if1 .left,
-      sym (c .before .before .before .before .before .before .before .before .before .before .before .before .before .before .before .before .before .before .before .begins-with2 .ensures) ∙ c .before .before .before .before .before .before .before .before .before .before .before .before .before .before .before .before .before .before .if2 .left,
-      sym (c .before .before .before .before .before .before .before .before .before .before .before .before .before .before .before .before .begins-with3 .ensures) ∙ c .before .before .before .before .before .before .before .before .before .before .before .before .before .before .before .if3 .left,
-      sym (c .before .before .before .before .before .before .before .before .before .before .before .before .before .begins-with4 .ensures) ∙ c .before .before .before .before .before .before .before .before .before .before .before .before .if4 .left,
-      sym (c .before .before .before .before .before .before .before .before .before .before .begins-with5 .ensures) ∙ c .before .before .before .before .before .before .before .before .before .if5 .left,
-      sym (c .before .before .before .before .before .before .before .begins-with6 .ensures) ∙ c .before .before .before .before .before .before .if6 .left,
-      sym (c .before .before .before .before .is-word .ensures) ∙ c .before .before .before .if7 .left,
-      sym (c .before .is-word2 .ensures) ∙ c .if8 .left,
+returns-6 c =
+    c .writing-kind .ensures
+    ∙ rw (
+      sym (c .before .before .before .before .before .before .before .before .before .before .before .before .before .before .begins-with .ensures) ∙ c .before .before .before .before .before .before .before .before .before .before .before .before .before .if1 .left,
+      sym (c .before .before .before .before .before .before .before .before .before .before .before .begins-with2 .ensures) ∙ c .before .before .before .before .before .before .before .before .before .before .if2 .left,
+      sym (c .before .before .before .before .before .before .before .before .begins-with3 .ensures) ∙ c .before .before .before .before .before .before .before .if3 .left,
+      sym (c .before .before .before .before .before .is-word .ensures) ∙ c .before .before .before .before .if4 .left,
+      sym (c .before .before .is-word2 .ensures) ∙ c .before .if5 .left,
     )
 
 pub kind-of-spec : {M : Type 1} → statement M
@@ -161,19 +105,11 @@ kind-of-spec =
     slice-aggregate-begins-with-3
     begins-with-requires-3
     returns-3
-    slice-aggregate-begins-with-4
-    begins-with-requires-4
-    returns-4
-    slice-aggregate-begins-with-5
-    begins-with-requires-5
-    returns-5
-    slice-aggregate-begins-with-6
-    begins-with-requires-6
-    returns-6
     slice-aggregate-is-word
     is-word-requires
-    returns-7
+    returns-4
     slice-aggregate-is-word-2
     is-word-requires-2
-    returns-8
-    returns-9)
+    returns-5
+    writing-kind-requires
+    returns-6)

@@ -84,6 +84,12 @@ show-record-requires c κs = search needs
 enum-told-9 : tie.Need-enum-told-9
 enum-told-9 c = search needs
 
+coming-record-requires : tie.Need-coming-record-requires
+coming-record-requires c κs = search needs
+
+enum-told-10 : tie.Need-enum-told-10
+enum-told-10 c = search needs
+
 end-with-requires : tie.Need-end-with-requires
 end-with-requires c κs = search needs
 
@@ -166,6 +172,15 @@ returns-10 : tie.Need-returns-10
 returns-10 c =
     let a = c .before .before .before .before .before .before .before .before .before .before .before .args in
     let kind = sym (c .before .before .before .before .before .before .kind-of .ensures) ∙ c .before .before .before .before .enum-told9 .given .1 in
+    as-result (a .r) (a .next) (a .out .now) (a .at) (later-calls (a .r) (a .bytes .now) (c .before .before .before .before .before .before .before .if1 .left) kind) (c .before .before .coming-record .ensures)
+
+same-length-11 : tie.Need-same-length-11
+same-length-11 c = search needs
+
+returns-11 : tie.Need-returns-11
+returns-11 c =
+    let a = c .before .before .before .before .before .before .before .before .before .before .before .args in
+    let kind = sym (c .before .before .before .before .before .before .kind-of .ensures) ∙ c .before .before .before .before .enum-told10 .given .1 in
     as-result (a .r) (a .next) (a .out .now) (a .at) (later-calls (a .r) (a .bytes .now) (c .before .before .before .before .before .before .before .if1 .left) kind) (c .before .before .end-with .ensures)
 
 pub rehearse-record-spec : {M : Type 1} → statement M
@@ -197,6 +212,8 @@ rehearse-record-spec =
     enum-told-8
     show-record-requires
     enum-told-9
+    coming-record-requires
+    enum-told-10
     end-with-requires
     same-length-2
     returns-2
@@ -215,4 +232,6 @@ rehearse-record-spec =
     same-length-9
     returns-9
     same-length-10
-    returns-10)
+    returns-10
+    same-length-11
+    returns-11)

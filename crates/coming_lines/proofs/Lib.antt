@@ -1,0 +1,2 @@
+mod ComingForms
+mod ComingValues
