@@ -39,6 +39,16 @@ def read(path):
         return f.read()
 
 
+def library_names(root):
+    """The names that files import from the library."""
+    out = set()
+    for p in files(root, (".antt", ".rt")):
+        for m in re.finditer(r"^(?:pub |ghost )?use (?!Rattle\.(?!std\.))[a-z_]+[\w.]*\.\{([^}]*)\}", read(p), re.M):
+            for n in m.group(1).split(","):
+                out |= {w for w in n.split() if w != "as"}
+    return out
+
+
 def is_goal(line):
     return re.search(r": tie\.", line) is not None
 
@@ -87,20 +97,21 @@ def dashed(name, words):
 def table(root):
     names, seen = declared(root)
     functions, rust = rust_names(root)
+    kept = library_names(root)
     camel = {n for n in list(names) + list(seen) if CAMEL.match(n)}
     new = {n: snake(n) for n in camel}
     if len(set(new.values())) != len(new):
         sys.exit("names fall together")
     lemmas = {}
     for n, s in sorted(new.items()):
-        if s in names:
+        if s in names and s not in kept:
             lemmas[s] = s + "_lem"
     words = {n for n in names if "-" not in n} | set(new.values()) | functions | LIBRARY
     taken = set(seen) | rust | set(new.values()) | set(lemmas.values())
     out = dict(new)
     out.update(lemmas)
     for n in sorted(names):
-        if "-" not in n:
+        if "-" not in n or n in kept:
             continue
         t = dashed(n, words)
         if t != n and t not in taken:

@@ -1,4 +1,7 @@
 // The record that begins at a place of the input: what became of it, what is known after it, where the next begins, and its line.
+
+#![tactic(auto)]
+
 ghost use Rattle.std.specs.Prelude.{◌≡◌};
 ghost use Rattle.programs.specs.Advancing.{done_advance, advance_of};
 ghost use Rattle.following.specs.FollowProgram.{follow_program};
@@ -10,7 +13,7 @@ use record_steps::read_record;
 use records::{Cut, cut_record};
 
 // The record that begins at a place: what became of it, what is known after it, where the next begins, and its line.
-#[derive(Drop)]
+#[derive(Clone, Copy)]
 pub struct Advance {
     pub progress: Progress,
     pub follower: Follower,

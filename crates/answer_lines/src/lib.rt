@@ -1,4 +1,7 @@
 // The lines that `rehearse` prints for the answers of calls, written into a buffer. What does not fit is not written at all.
+
+#![tactic(auto)]
+
 ghost use Rattle.std.specs.Prelude.{◌≡◌, [], ◌∷◌};
 ghost use Rattle.decimals.specs.Putting.{put_at, place_after};
 ghost use Rattle.forms.specs.Form.{form_of};

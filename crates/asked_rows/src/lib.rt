@@ -1,4 +1,7 @@
 // The requests that the messages of a table have on the wire, and the row that one group's requests make.
+
+#![tactic(auto)]
+
 ghost use Rattle.std.specs.Prelude.{◌≡◌, take};
 ghost use Rattle.asked_rows.specs.Asked.{request_found, requests_of, drawn_requests, carried_row};
 
@@ -8,7 +11,7 @@ use requests::{carry, place};
 use rules::{Condition, TableMessage};
 
 // A request on the wire: where it was made, its station's index, and its slot total.
-#[derive(Drop)]
+#[derive(Clone, Copy)]
 pub struct WireRequest {
     pub group: u8,
     pub minislot: u8,
@@ -17,7 +20,7 @@ pub struct WireRequest {
 }
 
 // The request of a message, if it is asked.
-#[derive(Drop)]
+#[derive(Clone, Copy)]
 struct FoundRequest {
     found: bool,
     request: WireRequest,
@@ -36,7 +39,7 @@ const NOT_ASKED: FoundRequest = FoundRequest {
 };
 
 // The requests of messages: the first `count` of the list.
-#[derive(Drop)]
+#[derive(Clone, Copy)]
 pub struct DrawnRequests {
     pub list: [WireRequest; 128],
     pub count: usize,

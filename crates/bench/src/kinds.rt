@@ -15,7 +15,7 @@ use requests::{carry, place};
 use rules::{Condition, Counters, MessageRecord, Station, WireRow};
 use runs_arrivals::draw;
 
-#[derive(Drop)]
+#[derive(Clone, Copy)]
 pub(crate) struct Table {
     pub stations: [Station; 64],
     pub wire: [WireRow; 8],

@@ -1,5 +1,8 @@
 // What the benchmark calls: channels of 64 stations under load, with calls repeated on the state as it is, so that the cost of one call is
 // a difference of two runs; and, on tables of each kind, the test of a sound table and who sends in the coming slots.
+
+#![tactic(auto)]
+
 mod kinds;
 
 use coming_rules::ComingAnswer;

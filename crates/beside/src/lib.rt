@@ -1,5 +1,8 @@
 // What the two messages of a station do in a slot, in which it asks for at most one of them. Each function is equal to its rule of crate
 // `rules`.
+
+#![tactic(auto)]
+
 ghost use Rattle.std.specs.Prelude.{◌≡◌, ◌&&◌, [], ◌∷◌};
 ghost use Rattle.rules.specs.Stepping.{is_fresh, acts_of, acts_beside};
 

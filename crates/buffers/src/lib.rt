@@ -1,4 +1,7 @@
 // A buffer of bytes: those that are still needed kept at its front, and how many it has. Nothing here knows what the bytes are.
+
+#![tactic(auto)]
+
 ghost use Rattle.std.specs.Prelude.{◌≡◌, ◌≤◌, length, take};
 ghost use Rattle.buffers.specs.Keeping.{rest_of, kept_of};
 

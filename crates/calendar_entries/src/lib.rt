@@ -1,5 +1,8 @@
 // The entries of a calendar for streams (paper 02, T-02): their tests, and the number that refuses them. Each function is equal to its rule of
 // crate `rules`.
+
+#![tactic(auto)]
+
 ghost use Rattle.std.specs.Prelude.{◌≡◌};
 ghost use Rattle.rules.specs.Calendars.{entry_within, entries_within, some_free};
 ghost use Rattle.rules.specs.Settings.{entries_number_of};

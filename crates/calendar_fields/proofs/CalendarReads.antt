@@ -1,6 +1,6 @@
 -- A calendar's entries: the loop that takes the first 24 numbers of a list, and that a calendar read by way of a list of numbers is `calendar_in` of the parts.
 -- Assumes nothing.
-use mathlib.Core.Bool.{Bool, true, false, and_false}
+use mathlib.Core.Bool.{Bool, true, false, and-false}
 use mathlib.Core.Path.{◌≡◌, refl, ap, ◌∙◌}
 use mathlib.Core.List.{List, ◌++◌, map, append-nil}
 use Prim.Native.Nat.{ℕ, ◌+◌, ◌-◌, ◌≤◌, ◌<◌}
@@ -51,7 +51,7 @@ module _ (ps : List (List ℕ)) where
   unfolding calendar_in
   not_24 h n e =
       let g = list-listed 65535 ps h e in
-      rw (g.counted, n, and_false)
+      rw (g.counted, n, and-false)
 
   broken : list_of 65535 ps ≡ broken_list → calendar_in ps ≡ broken_calendar → as_read
   unfolding broken_list
@@ -65,4 +65,4 @@ module _ (ps : List (List ℕ)) where
       go s true true d f g = all_read (eqb-true _ _ f) g
       go true false true d f g = not_24 (leb-true _ _ d) f g
       go false false true d f g = broken (rw d) (rw f)
-      go s t false d f g = broken (rw (g, and_false (leb (length ps) 256))) (rw (g, and_false (eqb (length ps) 24)))
+      go s t false d f g = broken (rw (g, and-false (leb (length ps) 256))) (rw (g, and-false (eqb (length ps) 24)))

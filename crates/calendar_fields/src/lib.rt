@@ -1,4 +1,7 @@
 // Reading the entries of a calendar from a record of `rehearse`, which is handed over without its CR LF.
+
+#![tactic(auto)]
+
 ghost use Rattle.std.specs.Prelude.{◌≡◌, take, drop};
 ghost use Rattle.fields.specs.Fields.{parts};
 ghost use Rattle.calendar_fields.specs.CalendarFields.{calendar_in, calendar_with, broken_calendar};
@@ -6,7 +9,7 @@ ghost use Rattle.calendar_fields.specs.CalendarFields.{calendar_in, calendar_wit
 use number_lists::{NumberList, numbers_from};
 
 // A calendar's entries: number 0; or number 19.
-#[derive(Drop)]
+#[derive(Clone, Copy)]
 pub struct CalendarFields {
     pub number: u8,
     pub entries: [u16; 24],

@@ -1,5 +1,8 @@
 // The calendar that every record holds for streams (paper 02, T-02), by value: whether it is within its limits, the coming slot's entry, the
 // next position, and a listener's or a station's record with other entries. Each function is equal to its rule of crate `rules`.
+
+#![tactic(auto)]
+
 ghost use Rattle.std.specs.Prelude.{◌≡◌, ◌≤◌, get_or};
 ghost use Rattle.rules.specs.Calendars.{free_entry, calendar_within, position_after};
 ghost use Rattle.rules.specs.Settings.{with_calendar, calendar_on};

@@ -1,6 +1,6 @@
 -- The ways of the reader of an offer's numbers, each a case of `offer_in`: by the parts alone, and then by what was read of the bytes.
 -- Assumes nothing.
-use mathlib.Core.Bool.{Bool, true, false, and_false, true≢false}
+use mathlib.Core.Bool.{Bool, true, false, and-false, true≢false}
 use mathlib.Core.Path.{◌≡◌, refl, ap, sym, ◌∙◌}
 use mathlib.Core.List.{List, [], ◌∷◌}
 use Prim.Native.Nat.{ℕ, ◌<◌, ◌≤◌}
@@ -21,7 +21,7 @@ not_field most p e = rw e
 
 pub not_within : (most : ℕ) (p : List ℕ) → most < numeral p → is_number most p ≡ false
 unfolding is_number
-not_within most p h = rw (lt-leb (numeral p) most h, and_false (is_field p))
+not_within most p h = rw (lt-leb (numeral p) most h, and-false (is_field p))
 
 pub is_within : (most : ℕ) (p : List ℕ) → is_field p ≡ true → numeral p ≤ most → is_number most p ≡ true
 unfolding is_number
@@ -43,7 +43,7 @@ offer-unread at (p ∷ ps) e = bad-index p ps (not_field 65535 p (unread at p ps
 bad_bytes : (at : ℕ) (p : List ℕ) (qs : List (List ℕ)) → none qs ≡ false → field_of at qs ≡ field.Broken → offer_in (p ∷ qs) ≡ Broken
 unfolding offer_in none
 bad_bytes at p [] n e = absurd (true≢false n)
-bad_bytes at p (q ∷ []) n e = rw (unread at q [] e, and_false (is_number 65535 p))
+bad_bytes at p (q ∷ []) n e = rw (unread at q [] e, and-false (is_number 65535 p))
 bad_bytes at p (q ∷ r ∷ qs) n e = refl
 
 too_many : (p q : List ℕ) (rs : List (List ℕ)) → none rs ≡ false → offer_in (p ∷ q ∷ rs) ≡ Broken

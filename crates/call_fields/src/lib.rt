@@ -1,4 +1,7 @@
 // Reading the numbers of an offer or a hold from a record of `rehearse`, which is handed over without its CR LF; and what those of a start are.
+
+#![tactic(auto)]
+
 ghost use Rattle.std.specs.Prelude.{◌≡◌, drop};
 ghost use Rattle.fields.specs.Fields.{parts};
 ghost use Rattle.call_fields.specs.CallFields.{offer_in};
@@ -7,14 +10,14 @@ use fields::{Field, field_at};
 use number_lists::NumberList;
 
 // An offer's or a hold's index and bytes, or number 19.
-#[derive(Drop)]
+#[derive(Clone, Copy)]
 pub enum OfferFields {
     Numbers(u16, u32),
     Broken,
 }
 
 // A start's m, n and indexes: number 0; or number 19.
-#[derive(Drop)]
+#[derive(Clone, Copy)]
 pub struct StartFields {
     pub number: u8,
     pub m: u8,

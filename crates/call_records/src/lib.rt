@@ -1,4 +1,7 @@
 // Which call a record of `rehearse` asks for, by the word that it begins with. The record is handed over without its CR LF.
+
+#![tactic(auto)]
+
 ghost use Rattle.std.specs.Prelude.{◌≡◌};
 ghost use Rattle.call_records.specs.Words.{writing_kind_of, kind_of};
 
@@ -6,7 +9,7 @@ use prefixes::{begins_with, is_word};
 
 // The call that a record asks for: an offer, a hold, a commit, a withdrawal, a slot, a slot with no picks, to set a calendar, to be shown
 // the channel, or who sends in the coming slots; or it is no call.
-#[derive(Drop)]
+#[derive(Clone, Copy)]
 pub enum Kind {
     Offer,
     Hold,

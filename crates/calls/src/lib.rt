@@ -1,4 +1,7 @@
 // What the calls on a channel come back with, and the test that they have in common.
+
+#![tactic(auto)]
+
 ghost use Rattle.std.specs.Prelude.{◌≡◌};
 ghost use Rattle.rules.specs.Limits.{between};
 ghost use Rattle.calls.specs.Replies.{refused_reply, refused_decided};
@@ -10,14 +13,14 @@ use table::{Loaded, blanks, hold};
 const MOST_STATIONS: usize = 64;
 
 // What a start comes back with: its answer, and the wire after it (as it came where the start is refused).
-#[derive(Drop)]
+#[derive(Clone, Copy)]
 pub struct StartReply {
     pub answer: StartAnswer,
     pub wire: [WireRow; 8],
 }
 
 // What a writing, a calendar or a slot comes back with: its answer, and the wire after it (as it came where the call is refused).
-#[derive(Drop)]
+#[derive(Clone, Copy)]
 pub struct CallReply {
     pub answer: Answer,
     pub wire: [WireRow; 8],
@@ -25,14 +28,14 @@ pub struct CallReply {
 
 // What a writing or a calendar comes to, on a copy of the table: the records to be written over the table (none where it is refused), and
 // its reply.
-#[derive(Drop)]
+#[derive(Clone, Copy)]
 pub struct Decided {
     pub loaded: Loaded,
     pub reply: CallReply,
 }
 
 // A slot judged: its number in order of checking (0 where it goes through), how many stations step, and the outcome that they step by.
-#[derive(Drop)]
+#[derive(Clone, Copy)]
 pub struct Judged {
     pub number: u8,
     pub steps: usize,

@@ -1,6 +1,9 @@
 // The channel: a table of stations that the caller lends, and a wire passed beside it; its start. The calls that write a message record of
 // a station, its calendar and its slots stand in crates of their own. What a call comes to is worked out by value on a copy of the table;
 // the functions over the lent table are few and thin.
+
+#![tactic(auto)]
+
 ghost use Rattle.std.specs.Prelude.{◌≡◌};
 ghost use Rattle.channel_rules.specs.ChannelCalls.{channel_start_of};
 ghost use Rattle.rules.specs.Numbers.{start_told};

@@ -1,4 +1,7 @@
 // The call of a channel that sets its calendar, over the lent table.
+
+#![tactic(auto)]
+
 ghost use Rattle.std.specs.Prelude.{◌≡◌};
 ghost use Rattle.channel_rules.specs.ChannelCalls.{channel_calendar_of};
 ghost use Rattle.rules.specs.Numbers.{call_told};

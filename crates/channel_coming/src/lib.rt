@@ -1,5 +1,8 @@
 // Who sends in the coming slots, of a channel whose table the caller lends (paper 02, T-07): worked out by value on a copy of the table,
 // and written to a list that the caller lends.
+
+#![tactic(auto)]
+
 ghost use Rattle.std.specs.Prelude.{◌≡◌, length};
 ghost use Rattle.calls.specs.ByValue.{channel_of};
 ghost use Rattle.coming_rules.specs.Coming.{coming_of, coming_told, coming_told_of};

@@ -15,6 +15,9 @@
 // `counters` before it: m, n, the next group, H, N, eight RQ, eight Open marks; and the position and the calendar's entries of the line
 // `position` after that), `minislot` (group, minislot, word and count). `table` writes the table, `show` the position and the owners of
 // each of its records; `keep` keeps the table, and `again` comes back to the one that was kept.
+
+#![tactic(auto)]
+
 mod coming;
 mod lines;
 
@@ -37,7 +40,7 @@ use runs_text::text;
 
 // The table that the next call is made on, the one that was kept, and what lines before a call gave it: the counters of records, the
 // indexes of a start, the picks of a slot.
-#[derive(Drop)]
+#[derive(Clone, Copy)]
 struct State {
     last: LocalChannel,
     kept: LocalChannel,

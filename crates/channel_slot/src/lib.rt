@@ -1,4 +1,7 @@
 // A slot of a channel, over the lent table.
+
+#![tactic(auto)]
+
 ghost use Rattle.std.specs.Prelude.{◌≡◌};
 ghost use Rattle.channel_rules.specs.ChannelCalls.{channel_slot_of};
 ghost use Rattle.rules.specs.Numbers.{call_told};

@@ -1,4 +1,7 @@
 // The call of a channel that writes one message record of one station, over the lent table.
+
+#![tactic(auto)]
+
 ghost use Rattle.std.specs.Prelude.{◌≡◌};
 ghost use Rattle.channel_rules.specs.ChannelCalls.{channel_write_of};
 ghost use Rattle.rules.specs.Numbers.{call_told};

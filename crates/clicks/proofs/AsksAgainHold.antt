@@ -2,7 +2,7 @@
 -- returns, with the group's mark no; so its own Single there is queued. The slots of the other groups leave an asked message and another group's mark alone.
 -- Assumes nothing.
 use mathlib.Core.Path.{◌≡◌, refl, sym, ap, subst, ◌∙◌}
-use mathlib.Core.Bool.{Bool, true, false, cond, and_false}
+use mathlib.Core.Bool.{Bool, true, false, cond, and-false}
 use mathlib.Core.List.{List, [], ◌∷◌}
 use mathlib.Core.Logic.{◌≢◌, inr, ⊎_elim}
 use mathlib.Core.Option.{Option, none, some as owned}
@@ -86,7 +86,7 @@ asked-stays OpenTurn h j t = refl
 module _ (s : Station) (x : HeardSlot) (a b : Condition) where
   beside-alone : is_fresh b ≡ false → beside_by s.counters (row_heard x) x.pick a b ≡ acted_by s.counters (row_heard x) x.pick b
   unfolding beside_by
-  beside-alone e = rw (e, and_false (is_fresh a))
+  beside-alone e = rw (e, and-false (is_fresh a))
 
   short-not-fresh : is_fresh a ≡ false → beside_by s.counters (row_heard x) x.pick a b ≡ acted_by s.counters (row_heard x) x.pick b
   unfolding beside_by

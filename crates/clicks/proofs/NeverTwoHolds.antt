@@ -24,7 +24,7 @@ abbrev Other : ℕ → Type 0
 Other n = n ≢ 2
 
 first-not : (words counts : List ℕ) → Other (first_number (readings words counts))
-first-not = first_by Other (λ e. omega arith) (λ n l. l.not-2)
+first-not = first_by Other (λ e. omega arith) (λ n l. l.not_2)
 
 reading-not : (a b c : Bool) → Other (cond a 1 (cond b 3 (cond c 4 0)))
 reading-not true b c e = omega arith
@@ -54,6 +54,6 @@ never-two =
     record {
       reading = λ word count. reading-not (ltb 4095 word) (eqb (ones word) 6 && eqb count 0) (eqb (ones word) 0 && not (eqb count 0));
       row = row-not;
-      listening = listen-by Other (λ e. omega arith) (λ e. omega arith) (λ e. omega arith) (λ n l. l.not-2) (λ e. omega arith);
+      listening = listen-by Other (λ e. omega arith) (λ e. omega arith) (λ e. omega arith) (λ n l. l.not_2) (λ e. omega arith);
       slot = slot-not;
     }

@@ -1,4 +1,7 @@
 // Reading how many coming slots are asked about, from a record of `rehearse`, which is handed over without its CR LF.
+
+#![tactic(auto)]
+
 ghost use Rattle.std.specs.Prelude.{◌≡◌, drop};
 ghost use Rattle.fields.specs.Fields.{parts};
 ghost use Rattle.coming_fields.specs.ComingFields.{coming_in, broken_coming};
@@ -6,7 +9,7 @@ ghost use Rattle.coming_fields.specs.ComingFields.{coming_in, broken_coming};
 use fields::{Field, field_at};
 
 // The number of slots asked about: number 0; or number 19.
-#[derive(Drop)]
+#[derive(Clone, Copy)]
 pub struct ComingFields {
     pub number: u8,
     pub w: u16,

@@ -1,4 +1,7 @@
 // The line that `rehearse` prints of who sends in the coming slots, written into a buffer. What does not fit is not written at all.
+
+#![tactic(auto)]
+
 ghost use Rattle.std.specs.Prelude.{◌≡◌, ◌∷◌, min, take};
 ghost use Rattle.coming_rules.specs.declared.ComingAnswer.TheVariants.{Until};
 ghost use Rattle.decimals.specs.Putting.{put_at, place_after};

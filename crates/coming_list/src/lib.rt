@@ -1,5 +1,8 @@
 // A list of coming senders, filled slot by slot (paper 02, T-07): an owned slot has its owner, and each free one whoever has the next
 // place of the two transmission queues.
+
+#![tactic(auto)]
+
 ghost use Rattle.std.specs.Prelude.{◌≡◌, ℕ, ◌≤◌, length, get_or};
 ghost use Rattle.coming_rules.specs.Coming.{nobody};
 ghost use Rattle.coming_rules.specs.Planned.{planned_list};

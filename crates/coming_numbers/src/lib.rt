@@ -1,4 +1,7 @@
 // The number of asking who sends in the coming slots (paper 02, T-07), in order of checking, on a copy of the table.
+
+#![tactic(auto)]
+
 ghost use Rattle.std.specs.Prelude.{◌≡◌};
 ghost use Rattle.rules.specs.Limits.{between};
 ghost use Rattle.calls.specs.ByValue.{array_channel};

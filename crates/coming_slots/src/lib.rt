@@ -1,5 +1,8 @@
 // Who sends in the coming slots (paper 02, T-07), on a table that was loaded: the call's number, and where it goes through the lent list
 // filled and the slots until both transmission queues are empty. No slot is run.
+
+#![tactic(auto)]
+
 ghost use Rattle.std.specs.Prelude.{◌≡◌};
 ghost use Rattle.calls.specs.ByValue.{array_channel};
 ghost use Rattle.coming_rules.specs.Coming.{coming_of};

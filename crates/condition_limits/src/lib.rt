@@ -1,4 +1,7 @@
 // The limits of one message's condition, by the counters that its station keeps. Each test is equal to its rule of crate `rules`.
+
+#![tactic(auto)]
+
 ghost use Rattle.std.specs.Prelude.{◌≡◌, ◌&&◌, ◌+◌, leb};
 ghost use Rattle.rules.specs.Limits.{between};
 ghost use Rattle.rules.specs.StationLimits.{condition_within, is_total};

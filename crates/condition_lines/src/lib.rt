@@ -1,5 +1,8 @@
 // The line that `show` of `rehearse` prints of a message record, by its station's index and the condition of its message, written into a
 // buffer. A line that does not fit is not written at all.
+
+#![tactic(auto)]
+
 ghost use Rattle.std.specs.Prelude.{◌≡◌};
 ghost use Rattle.rules.specs.declared.Condition.TheVariants.{Free, Fresh, Asked, Resolving, Urgent, Long, Held};
 ghost use Rattle.decimals.specs.Putting.{put_at, place_after};

@@ -1,4 +1,7 @@
 // The limits of a station's record, for the station and the channel. Each test is equal to its rule of crate `rules`.
+
+#![tactic(auto)]
+
 ghost use Rattle.std.specs.Prelude.{◌≡◌};
 ghost use Rattle.rules.specs.StationCalls.{no_station, is_index};
 ghost use Rattle.rules.specs.StationLimits.{station_within, messages_within};

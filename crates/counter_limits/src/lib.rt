@@ -1,4 +1,7 @@
 // The limits of the counters that every station keeps. Each test is equal to its rule of crate `rules`.
+
+#![tactic(auto)]
+
 ghost use Rattle.std.specs.Prelude.{◌≡◌};
 ghost use Rattle.listlaws.specs.Every.{every_from};
 ghost use Rattle.rules.specs.Limits.{within_limits, counts_within, groups_within, resolution_within, opened_within};

@@ -1,4 +1,7 @@
 // The lines that `show` of `rehearse` prints of a channel's counters, written into a buffer. A line that does not fit is not written.
+
+#![tactic(auto)]
+
 ghost use Rattle.std.specs.Prelude.{◌≡◌, true, ◌∷◌, ◌-◌, get_or};
 ghost use Rattle.decimals.specs.Putting.{put_at, place_after};
 ghost use Rattle.programs.specs.Buffering.{put_lines, place_after_lines};

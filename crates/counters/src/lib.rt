@@ -1,5 +1,8 @@
 // The counters that every station keeps: their ranges, their start, and what stands in their arrays for a group. Each function is equal to its
 // rule of crate `rules`.
+
+#![tactic(auto)]
+
 ghost use Rattle.std.specs.Prelude.{◌≡◌, ◌-◌, get_or};
 ghost use Rattle.rules.specs.Starting.{in_ranges, start_counters, no_counters};
 

@@ -1,4 +1,7 @@
 // Tests on lists of places in a queue: each place taken twice or more. They know no station.
+
+#![tactic(auto)]
+
 ghost use Rattle.std.specs.Prelude.{◌≡◌, eqb};
 ghost use Rattle.listlaws.specs.Lists.{count_of};
 ghost use Rattle.crowds.specs.Crowds.{crowded};

@@ -1,5 +1,8 @@
 // Writing into a buffer: decimal numbers and bytes, and what every writer of lines shares. What does not fit is not written at all.
 // Nothing here knows the protocol, nor which lines are written.
+
+#![tactic(auto)]
+
 ghost use Rattle.std.specs.Prelude.{◌≡◌, ◌+◌, ◌≤◌, leb, length};
 ghost use Rattle.std.proofs.lemmas.List.Edits.{sets};
 ghost use Rattle.decimals.specs.Decimal.{digits_of, HasDigits};

@@ -3,7 +3,7 @@
 -- again.
 -- Assumes nothing.
 use mathlib.Core.Path.{◌≡◌, refl, ap, ◌∙◌, subst, sym}
-use mathlib.Core.Bool.{Bool, true, false, cond, and_false, and-eq-true_iff}
+use mathlib.Core.Bool.{Bool, true, false, cond, and-false, and-eq-true_iff}
 use mathlib.Core.List.{List, [], ◌∷◌, ◌++◌}
 use mathlib.Core.Logic.{◌⊎◌, inr, ⊎_elim}
 use Prim.Native.Nat.{ℕ, zero, suc, ◌+◌, ◌-◌, ◌*◌, ◌≤◌, ◌<◌}
@@ -205,7 +205,7 @@ among-long c row o n s =
 
 crowd : (c : Counters) (row : List Feedback) → 2 ≤ short_singles row → immediate_of c row ≡ false
 unfolding immediate_of
-crowd c row h = rw (ne_eqb (short_singles row) 1 (λ e. omega arith), and_false)
+crowd c row h = rw (ne_eqb (short_singles row) 1 (λ e. omega arith), and-false)
 
 without_success : (c : Counters) (row : List Feedback) → (opened_of c ≡ false) ⊎ (1 ≤ collides row) ⊎ (2 ≤ short_singles row)
     → (immediate_of c row ≡ false) × ((places_after c row).urgent ≡ c.urgent + short_singles row)

@@ -1,5 +1,8 @@
 // Steps 4 and 5 of the counters: what the turn leaves of the lengths. Each function is equal to its rule of crate `rules`. What they
 // require is checked by the calls above them.
+
+#![tactic(auto)]
+
 ghost use Rattle.std.specs.Prelude.{◌≡◌, false, ◌≤◌};
 ghost use Rattle.rules.specs.Queueing.{passes};
 ghost use Rattle.rules.specs.Falling.{fallen, following, urgent_falls, long_falls};

@@ -1,6 +1,6 @@
 -- The ways of the reader of the first record, each a case of `first_of`.
 -- Assumes nothing.
-use mathlib.Core.Bool.{Bool, true, false, cond, and_false, true≢false}
+use mathlib.Core.Bool.{Bool, true, false, cond, and-false, true≢false}
 use mathlib.Core.Path.{◌≡◌, refl, ap, sym, ◌∙◌}
 use mathlib.Core.List.{List, [], ◌∷◌, map}
 use Prim.Native.Nat.{ℕ, ◌<◌, ◌≤◌}
@@ -38,7 +38,7 @@ from_one p = cond_same (every is_field (p ∷ [])) Broken
 from-half : (at : ℕ) (p : List ℕ) (qs : List (List ℕ)) → none qs ≡ false → field_of at qs ≡ field.Broken → first_from (p ∷ qs) ≡ Broken
 unfolding first_from every none
 from-half at p [] h e = absurd (true≢false h)
-from-half at p (q ∷ qs) h e = rw (unread at q qs e, and_false (is_field p))
+from-half at p (q ∷ qs) h e = rw (unread at q qs e, and-false (is_field p))
 
 from-two : (p q : List ℕ) → is_field p ≡ true → is_field q ≡ true → first_from (p ∷ q ∷ []) ≡ Numbers (numeral p) (numeral q)
 unfolding first_from two_of every

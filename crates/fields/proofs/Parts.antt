@@ -1,7 +1,7 @@
 -- The parts of a record, at the place of the bytes that a reader of one field has reached: one law for each way that the next byte, or the end, can go.
 -- `read_from at v d ps` is what the reader answers at place `at`, with v read so far of d digits, where the parts ps begin there.
 -- Assumes nothing.
-use mathlib.Core.Bool.{Bool, true, false, cond, ◌&&◌, and_false, true≢false}
+use mathlib.Core.Bool.{Bool, true, false, cond, ◌&&◌, and-false, true≢false}
 use mathlib.Core.Path.{◌≡◌, refl, ◌∙◌}
 use mathlib.Core.List.{List, [], ◌∷◌, foldl}
 use Prim.Native.Nat.{ℕ, zero, suc, ◌+◌, ◌*◌, ◌-◌, ◌^◌, ◌<◌, ◌≤◌}
@@ -67,11 +67,11 @@ one-digit at v d b p last e =
 
 one-other : (at v d b : ℕ) (p : List ℕ) (last : Bool) → is_digit b ≡ false → one at v d (b ∷ p) last ≡ Broken
 unfolding one every
-one-other at v d b p last e = simp (e, and_false)
+one-other at v d b p last e = simp (e, and-false)
 
 one-full : (at v d b : ℕ) (p : List ℕ) (last : Bool) → d ≡ 5 → one at v d (b ∷ p) last ≡ Broken
 unfolding one every
-one-full at v d b p last e = simp (lt-leb (d + suc (length p)) 5 (omega arith), and_false)
+one-full at v d b p last e = simp (lt-leb (d + suc (length p)) 5 (omega arith), and-false)
 
 module _ (at v d : ℕ) (b : ℕ) where
   onto-digit : (ps : List (List ℕ)) → is_digit b ≡ true → read_from at v d (onto b ps) ≡ read_from (at + 1) (tenfold v b) (d + 1) ps
@@ -96,7 +96,7 @@ below-digits b h = rw (lt-leb 48 b h)
 
 pub above-digits : (b : ℕ) → 57 < b → is_digit b ≡ false
 unfolding is_digit
-above-digits b h = rw (lt-leb b 57 h) (and_false (leb 48 b))
+above-digits b h = rw (lt-leb b 57 h) (and-false (leb 48 b))
 
 pub among-digits : (b : ℕ) → 48 ≤ b → b ≤ 57 → is_digit b ≡ true
 unfolding is_digit

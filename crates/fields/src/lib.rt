@@ -1,19 +1,22 @@
 // Reading the fields of a record, which is handed over without its CR LF: one field, and the first record's two. Nothing here knows the
 // protocol.
+
+#![tactic(auto)]
+
 ghost use Rattle.std.specs.Prelude.{◌≡◌, drop};
 ghost use Rattle.fields.specs.Fields.{parts};
 ghost use Rattle.fields.specs.Steps.{field_of};
 ghost use Rattle.fields.specs.First.{first_of, first_answer, first_answer_of};
 
 // One field: its number, the place after the comma that ends it, and whether the record's end ends it instead.
-#[derive(Drop)]
+#[derive(Clone, Copy)]
 pub enum Field {
     Number(u32, usize, bool),
     Broken,
 }
 
 // The first record's two numbers, or number 19.
-#[derive(Drop)]
+#[derive(Clone, Copy)]
 pub enum First {
     Numbers(u32, u32),
     Broken,

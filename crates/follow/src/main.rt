@@ -1,5 +1,8 @@
 // Follows a recording: reads `m,n` and then rows of minislots, and prints the listener's counters after each slot.
 // It reads standard input, or the file that its first argument names, or, where that is the word `example`, a recording of its own.
+
+#![tactic(auto)]
+
 use follow_header::put_header;
 use following::begin;
 use libc::STDIN_FILENO;

@@ -1,4 +1,7 @@
 // The header that `follow` prints before its lines, written into a buffer. What does not fit is not written at all.
+
+#![tactic(auto)]
+
 ghost use Rattle.std.specs.Prelude.{◌≡◌};
 ghost use Rattle.decimals.specs.Putting.{put_at, place_after};
 ghost use Rattle.lines.specs.Lines.{header_of};

@@ -1,6 +1,9 @@
 // Runs the recordings of its folder whose names stand on standard input, a line each, through the functions of `follow`, and prints for
 // each its name, what is printed for it, and an empty line. independent/follow.py makes the recordings and, by an implementation of its
 // own, what this program must write.
+
+#![tactic(auto)]
+
 use buffers::count_first;
 use follow_header::put_header;
 use following::begin;

@@ -1,4 +1,7 @@
 // The first record of a recording: the start of the listener that its two numbers lead to, or a refusal.
+
+#![tactic(auto)]
+
 ghost use Rattle.std.specs.Prelude.{◌≡◌};
 ghost use Rattle.rules.specs.Starting.{start_of};
 ghost use Rattle.following.specs.Steps.{started_step};

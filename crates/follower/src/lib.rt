@@ -1,4 +1,7 @@
 // What `follow` does with one record of its input: the listener's record goes on and a line is written, or the output ends with a refusal.
+
+#![tactic(auto)]
+
 ghost use Rattle.std.specs.Prelude.{◌≡◌};
 ghost use Rattle.programs.specs.Advancing.{advance_of};
 ghost use Rattle.programs.specs.Buffering.{put_lines, place_after_lines, reached};
@@ -15,7 +18,7 @@ use record_steps::read_record;
 use refusals::put_refusal;
 
 // One record followed and its line written: what became of it, what is known after it, and the place after the line.
-#[derive(Drop)]
+#[derive(Clone, Copy)]
 pub struct Followed {
     pub progress: Progress,
     pub follower: Follower,
@@ -23,7 +26,7 @@ pub struct Followed {
 }
 
 // The record that begins at a place: what became of it, what is known after it, where the next begins, and the place after its line.
-#[derive(Drop)]
+#[derive(Clone, Copy)]
 pub struct Next {
     pub progress: Progress,
     pub follower: Follower,

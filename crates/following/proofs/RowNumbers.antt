@@ -44,7 +44,7 @@ record_never_2 f bytes = go (ltb 1 f.place)
         (unless-by Other (in_ranges (first_minislots bytes) (first_groups bytes)) 5 0 (λ e. omega arith) (λ e. omega arith))
 
     go : (b : Bool) → cond b (row_number_of f bytes) (first_number_of bytes) ≢ 2
-    go true = row_by Other (λ e. omega arith) (λ e. omega arith) (λ e. omega arith) (λ e. omega arith) (λ n l. l.not-2) (λ e. omega arith) f bytes
+    go true = row_by Other (λ e. omega arith) (λ e. omega arith) (λ e. omega arith) (λ e. omega arith) (λ n l. l.not_2) (λ e. omega arith) f bytes
     go false = of-first
 
 -- a row of number 0 has passed the test of the limits and step 1's

@@ -1,4 +1,7 @@
 // What is known between two records of a recording, and what a listener's answer to a row leads to: its line, or a refusal.
+
+#![tactic(auto)]
+
 ghost use Rattle.std.specs.Prelude.{◌≡◌};
 ghost use Rattle.following.specs.Following.{at_begin, refused_step};
 ghost use Rattle.following.specs.Steps.{listened_step};
@@ -9,14 +12,14 @@ use rules::{Counters, ListenAnswer, Listened};
 use turn_letters::letter;
 
 // What is known between two records: the listener's record, and the number of the record to come (from 1; the first is `m,n`).
-#[derive(Drop)]
+#[derive(Clone, Copy)]
 pub struct Follower {
     pub counters: Counters,
     pub place: u64,
 }
 
 // What a record leads to: nothing to print (the first record), the line of a row, or the refusal that ends the output.
-#[derive(Drop)]
+#[derive(Clone, Copy)]
 pub enum Line {
     Nothing,
     Row {
@@ -34,7 +37,7 @@ pub enum Line {
 }
 
 // One record followed: what is known after it, and its line.
-#[derive(Drop)]
+#[derive(Clone, Copy)]
 pub struct Step {
     pub follower: Follower,
     pub line: Line,

@@ -1,5 +1,8 @@
 // The line of a form, written into a buffer: bytes with marks in them, where numbers stand. What does not fit is not written at all.
 // Nothing here knows the protocol.
+
+#![tactic(auto)]
+
 ghost use Rattle.std.specs.Prelude.{◌≡◌, ◌+◌, ◌≤◌, leb, length, drop};
 ghost use Rattle.std.proofs.lemmas.List.Edits.{sets};
 ghost use Rattle.decimals.specs.Putting.{put_at, place_after};

@@ -1,5 +1,8 @@
 // How long both transmission queues last (paper 02, T-07), in closed form: the slots of the next round of the calendar that no stream owns
 // are collected once, and the slot that serves the last place is told from them, however many places there are.
+
+#![tactic(auto)]
+
 ghost use Rattle.std.specs.Prelude.{◌≡◌, true, ◌+◌, ◌≤◌};
 ghost use Rattle.rules.specs.Calendars.{calendar_within};
 ghost use Rattle.coming_rules.specs.Planned.{planned_until};
@@ -10,7 +13,7 @@ use calendars::next_position;
 use rules::Counters;
 
 // Which of the next 24 slots no stream owns, counted from 0: how many there are, and their numbers in order (0 where there are fewer).
-#[derive(Drop)]
+#[derive(Clone, Copy)]
 pub struct FreeSlots {
     pub count: usize,
     pub slots: [u8; 24],

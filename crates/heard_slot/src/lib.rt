@@ -1,4 +1,7 @@
 // A station's slot on a row that was read, by value: the two tests that need the whole row, then its step by the slot's outcome.
+
+#![tactic(auto)]
+
 ghost use Rattle.std.specs.Prelude.{◌≡◌};
 ghost use Rattle.rules.specs.Hearing.{feedback_of};
 ghost use Rattle.rules.specs.StationCalls.{heard_slot_of, refused_slot};

@@ -1,7 +1,7 @@
 -- A message that a slot passes by does nothing: steps 1 and 3 to 5 leave its condition as it is, and it neither asks nor sends. Assumes
 -- nothing.
 use mathlib.Core.Path.{◌≡◌, refl}
-use mathlib.Core.Bool.{Bool, true, false, cond, and_false}
+use mathlib.Core.Bool.{Bool, true, false, cond, and-false}
 use Prim.Native.Nat.{ℕ}
 use lib.Dec.{eqb}
 use borrow.Author.Tests.{not-true, eqb-true}
@@ -27,7 +27,7 @@ still r g h e = go (eqb h g) refl e
   where
     go : (b : Bool) → eqb h g ≡ b → cond b (eqb r 0) true ≡ true → waits_in r g h ≡ false
     go true q z = let w : r ≡ 0 = eqb-true r 0 z in rw w
-    go false q z = rw (q, and_false)
+    go false q z = rw (q, and-false)
 
 module _ (r g pick : ℕ) where
   quiet : (t : Turn) (k : Condition) → idle_in t r g k ≡ true → after t r g pick k ≡ stays k

@@ -1,5 +1,8 @@
 // A message that a slot passes by: it stays as it is, asks nothing and sends nothing. Most messages of a slot are such, and are told by one
 // test.
+
+#![tactic(auto)]
+
 ghost use Rattle.std.specs.Prelude.{◌≡◌};
 ghost use Rattle.rules.specs.Stepping.{stays};
 ghost use Rattle.idling.specs.Idling.{serves_urgent, serves_long, idle_in};

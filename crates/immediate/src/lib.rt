@@ -1,5 +1,8 @@
 // Immediate success (step 1 of the counters): a group's Open mark, and the test of its row. Each function is equal to its rule of crate
 // `rules`.
+
+#![tactic(auto)]
+
 ghost use Rattle.std.specs.Prelude.{◌≡◌, take};
 ghost use Rattle.rows.specs.Row.{feedback_in};
 ghost use Rattle.rules.specs.Queueing.{opened_of, immediate};

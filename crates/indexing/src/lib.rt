@@ -1,4 +1,7 @@
 // A word's index among the 924 patterns, found from its two halves of six digits.
+
+#![tactic(auto)]
+
 ghost use Rattle.std.specs.Prelude.{◌≡◌};
 ghost use Rattle.pattern.specs.Patterns.{index_of};
 

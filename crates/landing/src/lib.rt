@@ -1,4 +1,7 @@
 // Step 1 for one message: where its minislot lands it. Each function is equal to its rule of crate `rules`, for any condition.
+
+#![tactic(auto)]
+
 ghost use Rattle.std.specs.Prelude.{◌≡◌, ◌-◌, get_or};
 ghost use Rattle.rules.specs.Landing.{at, stands};
 ghost use Rattle.rules.specs.Stepping.{settled_in};

@@ -1,5 +1,8 @@
 // A call of the channel on the first records of a room by value: they are lent to the call and taken back, so that a caller needs no
 // reference of its own. For each call a walk over the lent part, and the call for any count.
+
+#![tactic(auto)]
+
 ghost use Rattle.std.specs.Prelude.{◌≡◌, ◌≤◌};
 ghost use Rattle.channel_rules.specs.ChannelCalls.{channel_start_of, channel_write_of, channel_calendar_of, channel_slot_of};
 ghost use Rattle.lent_channel.specs.Lent.{lent_of, start_lent_of, call_lent_of};
@@ -9,14 +12,14 @@ use drawing::least;
 use rules::{Station, WireRow, Writing};
 
 // The room after a start on its first records, and the start's result.
-#[derive(Drop)]
+#[derive(Clone, Copy)]
 pub struct StartLent {
     pub stations: [Station; 65],
     pub reply: StartReply,
 }
 
 // The room after a writing, a calendar or a slot on its first records, and the call's result.
-#[derive(Drop)]
+#[derive(Clone, Copy)]
 pub struct CallLent {
     pub stations: [Station; 65],
     pub reply: CallReply,

@@ -1,4 +1,7 @@
 // The listener with its record lent for each row that is heard.
+
+#![tactic(auto)]
+
 ghost use Rattle.std.specs.Prelude.{◌≡◌};
 ghost use Rattle.rules.specs.Listening.{listening_of};
 ghost use Rattle.rules.specs.Numbers.{listen_told};

@@ -1,4 +1,7 @@
 // The table of stations that a caller lends: copied by value, for what needs all stations together, and written back.
+
+#![tactic(auto)]
+
 ghost use Rattle.std.specs.Prelude.{◌≡◌};
 ghost use Rattle.table.specs.Loading.{load_of, store_of};
 

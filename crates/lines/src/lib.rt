@@ -1,5 +1,8 @@
 // The lines that `follow` prints for its rows, written into a buffer. What does not fit is not written at all. Nothing here knows the
 // protocol.
+
+#![tactic(auto)]
+
 ghost use Rattle.std.specs.Prelude.{◌≡◌, ◌+◌, ◌≤◌, length};
 ghost use Rattle.std.proofs.lemmas.List.Edits.{sets};
 ghost use Rattle.decimals.specs.Decimal.{HasDigits};

@@ -1,4 +1,7 @@
 // The listener: its record at the start, and with another calendar.
+
+#![tactic(auto)]
+
 ghost use Rattle.std.specs.Prelude.{◌≡◌};
 ghost use Rattle.rules.specs.Starting.{start_of, refused_listener};
 ghost use Rattle.rules.specs.Settings.{calendar_of, refused_calendar};

@@ -12,6 +12,9 @@
 //
 // A line `recording` is not written itself: it has a number that a recording is made from, n and m, and 40 rows of that recording are
 // listened to in each of the three ways, one after the other, with the calendar that is given.
+
+#![tactic(auto)]
+
 mod recording;
 
 ghost use Rattle.std.specs.Prelude.{◌≡◌};
@@ -25,7 +28,7 @@ use runs_records::{counters_at, counters_numbers, counters_of, entries_of, owned
 use runs_text::{form, text};
 
 // What the calls are made on: a record, whether its calendar is written, and a row or a recording.
-#[derive(Drop)]
+#[derive(Clone, Copy)]
 struct Given {
     counters: Counters,
     shown: bool,

@@ -7,7 +7,7 @@ use rules::{Counters, Listened};
 use runs_text::{text, word};
 
 // 480 minislots, one after the other.
-#[derive(Drop)]
+#[derive(Clone, Copy)]
 struct Tape {
     words: [u16; 480],
     counts: [u8; 480],

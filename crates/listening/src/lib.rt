@@ -1,4 +1,7 @@
 // Listening by value: the counters that every station keeps, moved by one row that is heard.
+
+#![tactic(auto)]
+
 ghost use Rattle.std.specs.Prelude.{◌≡◌, true};
 ghost use Rattle.rules.specs.Limits.{within_limits};
 ghost use Rattle.rules.specs.Hearing.{feedback_of};

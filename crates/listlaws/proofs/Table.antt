@@ -2,7 +2,7 @@
 -- by one test that is computed over the table, and a loop that tests one element after the other tests the list.
 -- Assumes nothing.
 use mathlib.Core.Path.{◌≡◌, refl, subst}
-use mathlib.Core.Bool.{Bool, true, false, and-eq-true_iff, and_false}
+use mathlib.Core.Bool.{Bool, true, false, and-eq-true_iff, and-false}
 use mathlib.Core.List.{List, [], ◌∷◌}
 use Prim.Native.Nat.{ℕ, zero, suc, ◌+◌, ◌<◌}
 use native.Mathlib.Nat.{add-zero, zero-add, add-suc, suc-add, le_of_suc-le-suc, not-suc-le-zero}
@@ -22,7 +22,7 @@ module _ {A : Type 0} (test : ℕ → A → Bool) (d : A) where
   from_fails (x ∷ l) i zero h e = let w : test i x ≡ false = rw add-zero at e in rw w
   from_fails (x ∷ l) i (suc k) h e =
       let w : test (suc i + k) (get_or l k d) ≡ false = rw (add-suc, ← suc-add i k) at e in
-      rw (from_fails l (suc i) k (le_of_suc-le-suc h) w, and_false)
+      rw (from_fails l (suc i) k (le_of_suc-le-suc h) w, and-false)
 
   pub from-holds : (l : List A) (i : ℕ) → ((k : ℕ) → k < length l → test (i + k) (get_or l k d) ≡ true) → every_from test i l ≡ true
   from-holds [] i h = refl

@@ -1,1 +1,3 @@
 // Laws on lists that several layers cite: proofs/. No functions.
+
+#![tactic(auto)]

@@ -1,5 +1,8 @@
 // A channel that its caller holds by value: room for its records, and the wire; and its start. Its other calls stand in crates of
 // their own.
+
+#![tactic(auto)]
+
 ghost use Rattle.std.specs.Prelude.{◌≡◌};
 ghost use Rattle.rules.specs.Numbers.{start_told};
 ghost use Rattle.channel_rules.specs.Answered.{channel_start_told_of};
@@ -9,7 +12,7 @@ use lent_channel::start_lent;
 use rules::{Answer, StartAnswer, Station, WireRow};
 
 // Room for 65 records, of which the first `count` are lent to the channel's calls, and the wire. A count above 65 lends all of them.
-#[derive(Drop)]
+#[derive(Clone, Copy)]
 pub struct LocalChannel {
     pub stations: [Station; 65],
     pub count: usize,
@@ -17,14 +20,14 @@ pub struct LocalChannel {
 }
 
 // The channel after a start, and the start's answer.
-#[derive(Drop)]
+#[derive(Clone, Copy)]
 pub struct LocalStarted {
     pub channel: LocalChannel,
     pub answer: StartAnswer,
 }
 
 // The channel after a writing, a calendar or a slot, and its answer.
-#[derive(Drop)]
+#[derive(Clone, Copy)]
 pub struct LocalCalled {
     pub channel: LocalChannel,
     pub answer: Answer,

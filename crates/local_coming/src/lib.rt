@@ -1,5 +1,8 @@
 // Who sends in the coming slots, of a channel that its caller holds by value (paper 02, T-07): the first records of its room are lent to
 // the call, so that a caller needs no reference to records of its own. The list is lent by the caller.
+
+#![tactic(auto)]
+
 ghost use Rattle.std.specs.Prelude.{◌≡◌, ◌≤◌, length};
 ghost use Rattle.coming_rules.specs.Coming.{coming_of, coming_told, coming_told_of};
 ghost use Rattle.channel_coming.specs.Leaving.{leaves_coming};

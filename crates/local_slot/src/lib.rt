@@ -1,4 +1,7 @@
 // A slot of a channel that its caller holds by value.
+
+#![tactic(auto)]
+
 ghost use Rattle.std.specs.Prelude.{◌≡◌};
 ghost use Rattle.rules.specs.Numbers.{call_told};
 ghost use Rattle.channel_rules.specs.Answered.{channel_slot_told_of};

@@ -1,4 +1,7 @@
 // Writing a message record of a channel that its caller holds by value: an offer, a hold, a commit or a withdrawal.
+
+#![tactic(auto)]
+
 ghost use Rattle.std.specs.Prelude.{◌≡◌};
 ghost use Rattle.rules.specs.Numbers.{call_told};
 ghost use Rattle.channel_rules.specs.Answered.{channel_write_told_of};

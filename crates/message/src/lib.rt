@@ -1,4 +1,7 @@
 // A message: how many slots it takes.
+
+#![tactic(auto)]
+
 ghost use Rattle.std.specs.Prelude.{◌≡◌};
 ghost use Rattle.message.specs.Message.{slot_total_of, number_of, total_of, slots_number_of, slots_given_of};
 

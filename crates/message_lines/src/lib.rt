@@ -1,4 +1,7 @@
 // The lines that `show` of `rehearse` prints of a channel's stations, written into a buffer. A line that does not fit is not written.
+
+#![tactic(auto)]
+
 ghost use Rattle.std.specs.Prelude.{◌≡◌, take};
 ghost use Rattle.listlaws.specs.Lists.{gather_of};
 ghost use Rattle.condition_lines.specs.ConditionLines.{condition_line};

@@ -1,12 +1,15 @@
 // The places that a message has in both transmission queues together, the urgent queue's first, and the list of who is served at each
 // place before any message is put there (paper 02, T-07).
+
+#![tactic(auto)]
+
 ghost use Rattle.std.specs.Prelude.{◌≡◌, ◌+◌, ◌-◌};
 ghost use Rattle.message_places.specs.PlacesHad.{places_had, nobody_served};
 
 use rules::Condition;
 
 // The places that a message has, counted from 0: the first, and how many.
-#[derive(Drop)]
+#[derive(Clone, Copy)]
 pub struct Had {
     pub first: u32,
     pub count: u8,

@@ -1,9 +1,12 @@
 // A minislot: what is heard of it as a word and a count, and what that reads as.
+
+#![tactic(auto)]
+
 ghost use Rattle.std.specs.Prelude.{◌≡◌};
 ghost use Rattle.minislot.specs.Reading.{reading_of, single_of, empty_of, reading_answer, reading_answer_of};
 
 // What a minislot carries: the OR of its senders' words and of their counts.
-#[derive(Drop)]
+#[derive(Clone, Copy)]
 pub struct Minislot {
     pub word: u16,
     pub count: u8,
@@ -11,7 +14,7 @@ pub struct Minislot {
 
 // What a minislot reads as: no sender; one sender, with its pattern's index and its count; or a collision. A Collide is two senders or
 // more, or a click on the line, which may stand over one sender or none.
-#[derive(Drop)]
+#[derive(Clone, Copy)]
 pub enum Feedback {
     Empty,
     Single(u16, u8),
@@ -19,21 +22,21 @@ pub enum Feedback {
 }
 
 // The answer to reading a minislot: its feedback, or the number of the refusal: 1, 3 or 4.
-#[derive(Drop)]
+#[derive(Clone, Copy)]
 pub enum Reading {
     Heard(Feedback),
     Refused(u8),
 }
 
 // One minislot's feedback, as an element of a row.
-#[derive(Drop)]
+#[derive(Clone, Copy)]
 pub struct MinislotFeedback {
     pub feedback: Feedback,
 }
 
 // The answer to reading a row: number 0 with its weight and the feedback of its minislots, the rest of the array being Empty; or the
 // number of the refusal, 6, 1, 3 or 4, with weight 0 and nothing heard.
-#[derive(Drop)]
+#[derive(Clone, Copy)]
 pub struct RowReading {
     pub number: u8,
     pub weight: u8,

@@ -1,4 +1,7 @@
 // What a station must hear of itself in one minislot (refusal 12). Each test is equal to its rule of crate `rules`.
+
+#![tactic(auto)]
+
 ghost use Rattle.std.specs.Prelude.{◌≡◌};
 ghost use Rattle.pattern.specs.Ones.{contains_ones};
 ghost use Rattle.rules.specs.OwnHearing.{hears_here, hears_elsewhere, hears_at};

@@ -1,5 +1,8 @@
 // The transmission queues' part of step 5 for one message: places in a queue that fell move down by 1. Each function is equal to its rule
 // of crate `rules`, for any condition.
+
+#![tactic(auto)]
+
 ghost use Rattle.std.specs.Prelude.{◌≡◌};
 ghost use Rattle.rules.specs.Serving.{moved, urgent_moves, long_moves};
 

@@ -1,5 +1,8 @@
 // Where each minislot of a row that was read lands a newcomer: gone, or a place at the end of a queue. Each function is equal to its rule
 // of crate `rules`. What they require is checked by the calls above them.
+
+#![tactic(auto)]
+
 ghost use Rattle.std.specs.Prelude.{◌≡◌, eqb, take};
 ghost use Rattle.rows.specs.Row.{feedback_in};
 ghost use Rattle.rules.specs.Landing.{lands_alone, lands_after, landings as landings_of};

@@ -1,7 +1,7 @@
 -- A list read number by number is `list_of`. `go_list most k vs ps` is what the reader answers with k numbers read into the array vs, and the parts ps to come;
 -- `list-start` says it in the words of the definition, and the laws after it say it for each way that the next part can go.
 -- Assumes nothing.
-use mathlib.Core.Bool.{Bool, true, false, cond, ◌&&◌, and_false, true≢false}
+use mathlib.Core.Bool.{Bool, true, false, cond, ◌&&◌, and-false, true≢false}
 use mathlib.Core.Path.{◌≡◌, refl, ap, ◌∙◌}
 use mathlib.Core.List.{List, [], ◌∷◌, map}
 use Prim.Native.Nat.{ℕ, zero, suc, ◌+◌, ◌-◌, ◌<◌, ◌≤◌}
@@ -53,7 +53,7 @@ module _ (most : ℕ) where
   -- the ways of the next part
   pub list_odd : (k : ℕ) (vs p : List ℕ) (ps : List (List ℕ)) → is_number most p ≡ false → go_list most k vs (p ∷ ps) ≡ broken_list
   unfolding go_list every
-  list_odd k vs p ps e = rw (e, and_false)
+  list_odd k vs p ps e = rw (e, and-false)
 
   pub list_full : (k : ℕ) (vs p : List ℕ) (ps : List (List ℕ)) → k ≡ 256 → go_list most k vs (p ∷ ps) ≡ broken_list
   unfolding go_list

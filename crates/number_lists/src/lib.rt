@@ -1,5 +1,8 @@
 // Reading the numbers of a record's fields from a place on, as a list. The record is handed over without its CR LF.
 // Nothing here knows the protocol.
+
+#![tactic(auto)]
+
 ghost use Rattle.std.specs.Prelude.{◌≡◌, map, [], ◌≤◌, drop};
 ghost use Rattle.fields.specs.Fields.{parts};
 ghost use Rattle.number_lists.specs.NumberList.{list_of, list_with, whole_list, broken_list, low_byte};
@@ -8,7 +11,7 @@ use fields::{Field, field_at};
 
 // The numbers of the fields of a record from a place on: number 0, how many there are, and the numbers (0 where there are fewer);
 // or number 19 and nothing else.
-#[derive(Drop)]
+#[derive(Clone, Copy)]
 pub struct NumberList {
     pub number: u8,
     pub count: usize,

@@ -1,5 +1,8 @@
 // The outcome of a slot: what all stations with the same counters have in common, worked out once from the counters and a row that was
 // read, for a station and for a channel alike.
+
+#![tactic(auto)]
+
 ghost use Rattle.std.specs.Prelude.{◌≡◌, ◌≤◌, take};
 ghost use Rattle.rows.specs.Row.{feedback_in};
 ghost use Rattle.rules.specs.Hearing.{feedback_of};

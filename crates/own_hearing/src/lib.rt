@@ -1,4 +1,7 @@
 // What a station must hear of itself in a row (refusal 12). Each function is equal to its rule of crate `rules`.
+
+#![tactic(auto)]
+
 ghost use Rattle.std.specs.Prelude.{◌≡◌, min, take};
 ghost use Rattle.rows.specs.Row.{feedback_in};
 ghost use Rattle.rules.specs.OwnHearing.{own_minislot, own_total, listens, hears_itself};

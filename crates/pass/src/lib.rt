@@ -1,4 +1,7 @@
 // One pass over the lent table: each station takes its slot's step in place, and what they send is gathered.
+
+#![tactic(auto)]
+
 ghost use Rattle.std.specs.Prelude.{◌≡◌};
 ghost use Rattle.pass.specs.Rounds.{rounds_of};
 ghost use Rattle.slots.specs.Stepped.{stepped_of, gathered_of};

@@ -1,4 +1,7 @@
 // The 924 station patterns (paper: the twelve-bit words with exactly six ones), with the laws of them and of an OR's ones.
+
+#![tactic(auto)]
+
 ghost use Rattle.std.specs.Prelude.{◌≡◌};
 ghost use Rattle.pattern.specs.Patterns.{patterns};
 

@@ -2,6 +2,9 @@
 //
 // The walk goes through the numbers below 4096 and counts the ones of each by halving it. Each line has how many were tried and how
 // many were as they must be.
+
+#![tactic(auto)]
+
 ghost use Rattle.std.specs.Prelude.{◌≡◌, ◌≤◌, length};
 
 use runs_text::form;

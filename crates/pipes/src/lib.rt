@@ -1,10 +1,13 @@
 // What a run needs of the system: bytes of its input, and that its output is written. Nothing here knows what the bytes are.
+
+#![tactic(auto)]
+
 use buffers::count_first;
 use libc::STDOUT_FILENO;
 use standing::{Run, Wants, after_read, after_write, read_end};
 
 // A run after what it needed was done, and whether it goes on.
-#[derive(Drop)]
+#[derive(Clone, Copy)]
 pub struct Served {
     pub run: Run,
     pub live: bool,

@@ -1,7 +1,7 @@
 -- A slot that goes through, station by station: each takes its step by the outcome that all share. So where a message stands after it is what the message
 -- does by itself, and what is sent is what each station sends. Assumes nothing.
 use mathlib.Core.Path.{◌≡◌, refl, ap, ◌∙◌}
-use mathlib.Core.Bool.{Bool, true, false, ◌&&◌, cond, and_false}
+use mathlib.Core.Bool.{Bool, true, false, ◌&&◌, cond, and-false}
 use mathlib.Core.List.{List, [], ◌∷◌, map}
 use mathlib.Core.Logic.{◌⊎◌, inl, inr}
 use Prim.Native.Nat.{ℕ, zero, suc, ◌-◌, ◌≤◌, ◌<◌}
@@ -132,7 +132,7 @@ module _ (ch : Channel) (picks : List ℕ) (passed : Passed ch picks) where
 
     pub long_after : is_fresh (long_at ch k) ≡ false → long_at (channel_call ch (Slot picks)).state k ≡ (acts_in c (feedback_heard ch) (long_at ch k) (get_or picks k 0)).condition
     unfolding step_of acts_beside
-    long_after e = ap (λ (s : Station). s.long.condition) station-after ∙ rw (e, and_false (is_fresh (short_at ch k)))
+    long_after e = ap (λ (s : Station). s.long.condition) station-after ∙ rw (e, and-false (is_fresh (short_at ch k)))
 
   -- the counters after it
   pub calendar-after : (table_counters (channel_call ch (Slot picks)).state.stations).calendar ≡ c.calendar

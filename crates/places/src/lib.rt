@@ -1,5 +1,8 @@
 // Tests on lists of numbers, and of places in a queue: none of them twice, each place taken once. They know no station, so any protocol
 // whose queues have places can use them.
+
+#![tactic(auto)]
+
 ghost use Rattle.std.specs.Prelude.{◌≡◌};
 ghost use Rattle.listlaws.specs.Lists.{each, each_pair};
 ghost use Rattle.places.specs.Places.{differ, taken_once};

@@ -1,4 +1,7 @@
 // Where the station of an index stands in a table.
+
+#![tactic(auto)]
+
 ghost use Rattle.std.specs.Prelude.{◌≡◌, take};
 ghost use Rattle.channel_rules.specs.Soundness.{position_of};
 

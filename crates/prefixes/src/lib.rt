@@ -1,4 +1,7 @@
 // Whether bytes begin with a word, or are that word. Nothing here knows the protocol.
+
+#![tactic(auto)]
+
 ghost use Rattle.std.specs.Prelude.{◌≡◌};
 ghost use Rattle.prefixes.specs.Prefix.{prefixed, is_word};
 

@@ -1,10 +1,13 @@
 // What programs that read records and print lines have in common. What they are, and what they print, is said in specs/.
+
+#![tactic(auto)]
+
 ghost use Rattle.std.specs.Prelude.{◌≡◌, ◌-◌};
 ghost use Rattle.programs.specs.Places.{place_following};
 ghost use Rattle.programs.specs.Advancing.{goes_on};
 
 // What became of a record: it went through; it is not whole yet; no record is left; it was refused with a number, which ends the output.
-#[derive(Drop)]
+#[derive(Clone, Copy)]
 pub enum Progress {
     Went,
     More,

@@ -1,5 +1,8 @@
 // How a row's newcomers join the queues, one minislot after the other. Each function is equal to its rule of crate `rules`. What they
 // require is checked by the calls above them.
+
+#![tactic(auto)]
+
 ghost use Rattle.std.specs.Prelude.{◌≡◌, min, eqb, take};
 ghost use Rattle.rows.specs.Row.{feedback_in};
 ghost use Rattle.rules.specs.Queueing.{queued, queued_single, queued_row};

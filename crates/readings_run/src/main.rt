@@ -4,6 +4,9 @@
 // `digest` the first of the words to be read, the one past the last, and their count; a line `row` m, words and counts; a line `row_at` the
 // start and m, and the words and counts of a recording. A digest answers how many of each answer there were, and the sums of what the
 // Singles carried; a row its number, its weight and all eight places.
+
+#![tactic(auto)]
+
 ghost use Rattle.std.specs.Prelude.{◌≡◌, ◌≤◌, ◌<◌, length};
 
 use libc::STDIN_FILENO;

@@ -1,5 +1,8 @@
 // Which of a station's two message records a writing is for, and where the message of that record stands. Each function is equal to its
 // rule of crate `rules`.
+
+#![tactic(auto)]
+
 ghost use Rattle.std.specs.Prelude.{◌≡◌};
 ghost use Rattle.message.specs.Message.{fits_short};
 ghost use Rattle.rules.specs.Writing.{record_for, record_in, writes};

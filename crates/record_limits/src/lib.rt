@@ -1,5 +1,8 @@
 // What the limits of a station say of each of its two message records (paper 02, T-04): which messages it can hold. Each test is equal to its
 // rule of crate `rules`.
+
+#![tactic(auto)]
+
 ghost use Rattle.std.specs.Prelude.{◌≡◌};
 ghost use Rattle.rules.specs.StationLimits.{short_within, long_within};
 

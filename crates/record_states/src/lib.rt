@@ -1,4 +1,7 @@
 // Whether a message record is free, and whether its message is held. Each function is equal to its rule of crate `rules`.
+
+#![tactic(auto)]
+
 ghost use Rattle.std.specs.Prelude.{◌≡◌};
 ghost use Rattle.rules.specs.Writing.{is_free, is_held};
 

@@ -1,4 +1,7 @@
 // One record of a recording, the first or a row, to what it leads to.
+
+#![tactic(auto)]
+
 ghost use Rattle.std.specs.Prelude.{◌≡◌};
 ghost use Rattle.following.specs.Following.{follow_record};
 ghost use Rattle.following.specs.Steps.{row_step};

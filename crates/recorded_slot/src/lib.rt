@@ -1,4 +1,7 @@
 // A station's slot on a row that is a stretch from the middle of a longer recording.
+
+#![tactic(auto)]
+
 ghost use Rattle.std.specs.Prelude.{◌≡◌, ◌&&◌, ◌+◌, leb};
 ghost use Rattle.rules.specs.Recorded.{slot_at_of};
 ghost use Rattle.rules.specs.Numbers.{slot_told};

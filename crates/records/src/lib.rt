@@ -1,9 +1,12 @@
 // Splitting a stream of bytes into records, each ended by CR LF. Nothing here knows what a record holds.
+
+#![tactic(auto)]
+
 ghost use Rattle.std.specs.Prelude.{◌≡◌, ◌+◌, ◌<◌, length, drop};
 ghost use Rattle.records.specs.Cutting.{cut_of, cut_answer, cut_number_of, after_return};
 
 // Where the record ends that begins at a given place.
-#[derive(Drop)]
+#[derive(Clone, Copy)]
 pub enum Cut {
     // The record stands before end, and the next begins at next.
     Record { end: usize, next: usize },

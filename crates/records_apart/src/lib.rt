@@ -1,5 +1,8 @@
 // What the limits of a station say of its two message records together (paper 02, T-04): that they stand apart. Each test is equal to its rule
 // of crate `rules`.
+
+#![tactic(auto)]
+
 ghost use Rattle.std.specs.Prelude.{◌≡◌};
 ghost use Rattle.rules.specs.StationLimits.{not_asked, not_at, records_apart};
 

@@ -1,4 +1,7 @@
 // The line of a refusal, written into a buffer. What does not fit is not written at all. Nothing here knows the protocol.
+
+#![tactic(auto)]
+
 ghost use Rattle.std.specs.Prelude.{◌≡◌, ◌+◌, ◌≤◌, length};
 ghost use Rattle.std.proofs.lemmas.List.Edits.{sets};
 ghost use Rattle.decimals.specs.Decimal.{HasDigits};

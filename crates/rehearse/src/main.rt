@@ -1,5 +1,8 @@
 // Rehearses a channel: reads its start and then calls, and prints every answer.
 // It reads standard input, or the file that its first argument names, or, where that is the word `example`, a list of its own.
+
+#![tactic(auto)]
+
 use header_line::put_header;
 use libc::STDIN_FILENO;
 use pipes::{flush, serve};

@@ -1,4 +1,7 @@
 // A record of `rehearse` that makes a call on the channel: the channel's own call, by what the record holds.
+
+#![tactic(auto)]
+
 ghost use Rattle.std.specs.Prelude.{◌≡◌, drop};
 ghost use Rattle.fields.specs.Fields.{parts};
 ghost use Rattle.number_lists.specs.NumberList.{list_of};

@@ -1,4 +1,7 @@
 // A record of `rehearse` that asks who sends in the coming slots: the channel's own call, on a list that is lent here, and its line.
+
+#![tactic(auto)]
+
 ghost use Rattle.std.specs.Prelude.{◌≡◌, drop, replicate};
 ghost use Rattle.fields.specs.Fields.{parts};
 ghost use Rattle.coming_fields.specs.ComingFields.{coming_in};

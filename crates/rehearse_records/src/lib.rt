@@ -1,4 +1,7 @@
 // One record of `rehearse`, the start or a call.
+
+#![tactic(auto)]
+
 ghost use Rattle.std.specs.Prelude.{◌≡◌};
 ghost use Rattle.rehearsing.specs.Rehearsing.{show_result, rehearse_record};
 ghost use Rattle.rehearsing.specs.Rehearse.{reached_by, result_by};

@@ -1,4 +1,7 @@
 // A run of `rehearse` between two calls of the system: a round reads what the input buffer holds and says what the program has to do next.
+
+#![tactic(auto)]
+
 ghost use Rattle.std.specs.Prelude.{◌≡◌};
 ghost use Rattle.standing.specs.Standing.{standing};
 ghost use Rattle.round_steps.specs.Rounds.{round_of};
@@ -11,7 +14,7 @@ use round_steps::after_round;
 use standing::Run;
 
 // A run after a round, and what is known then.
-#[derive(Drop)]
+#[derive(Clone, Copy)]
 pub struct Rounded {
     pub rehearsal: Rehearsal,
     pub run: Run,

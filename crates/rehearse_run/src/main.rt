@@ -1,6 +1,9 @@
 // Runs the lists of calls of its folder whose names stand on standard input, a line each, through the functions of `rehearse`, and prints
 // for each its name, what is printed for it, and an empty line. independent/rehearse.py makes the lists and, by an implementation of its
 // own, what this program must write.
+
+#![tactic(auto)]
+
 use buffers::count_first;
 use header_line::put_header;
 use libc::STDIN_FILENO;

@@ -1,4 +1,7 @@
 // The record of `rehearse` that starts the channel: the channel's own start, by what the record holds.
+
+#![tactic(auto)]
+
 ghost use Rattle.std.specs.Prelude.{◌≡◌};
 ghost use Rattle.fields.specs.Fields.{parts};
 ghost use Rattle.call_fields.specs.CallFields.{start_in};

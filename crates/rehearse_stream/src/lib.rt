@@ -1,4 +1,7 @@
 // Reading the records that stand in a stretch of bytes, one after another.
+
+#![tactic(auto)]
+
 ghost use Rattle.std.specs.Prelude.{◌≡◌};
 ghost use Rattle.programs.specs.Buffering.{buffered_of};
 ghost use Rattle.rehearsing.specs.Rehearse.{rehearse_program, reached_by};

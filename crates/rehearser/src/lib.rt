@@ -1,4 +1,7 @@
 // The record that begins at a place of the input of `rehearse`.
+
+#![tactic(auto)]
+
 ghost use Rattle.std.specs.Prelude.{◌≡◌};
 ghost use Rattle.programs.specs.Advancing.{done_advance, advance_of};
 ghost use Rattle.rehearsing.specs.Rehearse.{rehearse_program, reached_by, written_by};

@@ -1,5 +1,8 @@
 // What `rehearse` knows between two records, and what is answered of a record: the channel goes on and lines are written, or the output
 // ends with a refusal.
+
+#![tactic(auto)]
+
 ghost use Rattle.std.specs.Prelude.{◌≡◌};
 ghost use Rattle.channel_rules.specs.Soundness.{table_counters};
 ghost use Rattle.programs.specs.Program.{Ends};
@@ -15,14 +18,14 @@ use rules::{Counters, Station};
 use starts::blank_wire;
 
 // What is known between two records: the channel, and the number of the record to come (from 1; the first is the start).
-#[derive(Drop)]
+#[derive(Clone, Copy)]
 pub struct Rehearsal {
     pub channel: LocalChannel,
     pub place: u64,
 }
 
 // A record read and its lines written: what became of it, what is known after it, where the next begins, and the place after the lines.
-#[derive(Drop)]
+#[derive(Clone, Copy)]
 pub struct Next {
     pub progress: Progress,
     pub rehearsal: Rehearsal,

@@ -1,4 +1,7 @@
 // What a channel's slot comes back with, once it is judged and its stations have sent: the answer, and the wire with the group's new row.
+
+#![tactic(auto)]
+
 ghost use Rattle.std.specs.Prelude.{◌≡◌, ◌-◌, ◌≤◌, set};
 ghost use Rattle.channel_rules.specs.ChannelCalls.{delivered_now};
 ghost use Rattle.replying.specs.Replying.{reply_of, Answerable};

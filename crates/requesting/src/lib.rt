@@ -1,5 +1,8 @@
 // Step 3 for one message, and RQ's part of step 5. r is RQ of the slot's group g after step 1. Each function is equal to its rule of crate
 // `rules`, for any condition.
+
+#![tactic(auto)]
+
 ghost use Rattle.std.specs.Prelude.{◌≡◌};
 ghost use Rattle.rules.specs.Requesting.{requests as requests_of, requested, waits_in, total_of};
 ghost use Rattle.rules.specs.Stepping.{request_minislot};

@@ -1,4 +1,7 @@
 // Requests: what one carries, how several join in a minislot of a row, and what is read of them together.
+
+#![tactic(auto)]
+
 ghost use Rattle.std.specs.Prelude.{◌≡◌};
 ghost use Rattle.requests.specs.Together.{carries, joined, placed};
 

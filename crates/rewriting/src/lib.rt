@@ -1,4 +1,7 @@
 // A station with one of its message records written. Each function is equal to its rule of crate `rules`.
+
+#![tactic(auto)]
+
 ghost use Rattle.std.specs.Prelude.{◌≡◌};
 ghost use Rattle.rules.specs.Writing.{with_record, writes, written_as};
 

@@ -1,4 +1,7 @@
 // What a round of a program that reads records changes of its run and of its input buffer. Nothing here knows what the records are.
+
+#![tactic(auto)]
+
 ghost use Rattle.std.specs.Prelude.{◌≡◌};
 ghost use Rattle.round_steps.specs.Rounds.{wants_by, needs_bytes, input_after, run_after};
 

@@ -1,4 +1,7 @@
 // A run of `follow` between two calls of the system: a round follows what the input buffer holds and says what the program has to do next.
+
+#![tactic(auto)]
+
 ghost use Rattle.std.specs.Prelude.{◌≡◌};
 ghost use Rattle.standing.specs.Standing.{standing};
 ghost use Rattle.round_steps.specs.Rounds.{round_of};
@@ -11,7 +14,7 @@ use standing::Run;
 use stream::follow_buffered;
 
 // A run after a round, and what is known then.
-#[derive(Drop)]
+#[derive(Clone, Copy)]
 pub struct Rounded {
     pub follower: Follower,
     pub run: Run,

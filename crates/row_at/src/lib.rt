@@ -1,4 +1,7 @@
 // A row of minislots that stands at a place of a longer recording.
+
+#![tactic(auto)]
+
 ghost use Rattle.std.specs.Prelude.{◌≡◌};
 ghost use Rattle.rows.specs.Row.{row_at_of};
 

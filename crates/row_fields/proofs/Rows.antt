@@ -1,7 +1,7 @@
 -- A row read pair by pair is `row_of`. `go_row k ws cs ps` is what the reader answers with k pairs read, the words ws and the counts cs, and the parts ps to come;
 -- `go-row` says it in the words of the definition, for all parts at once, and the laws after it say it for each way that a pair can go.
 -- Assumes nothing.
-use mathlib.Core.Bool.{Bool, true, false, cond, ◌&&◌, and_false, and-true, true≢false}
+use mathlib.Core.Bool.{Bool, true, false, cond, ◌&&◌, and-false, and-true, true≢false}
 use mathlib.Core.Path.{◌≡◌, refl, ap, ◌∙◌}
 use mathlib.Core.List.{List, [], ◌∷◌, map}
 use Prim.Native.Nat.{ℕ, zero, suc, ◌+◌, ◌*◌, ◌<◌, ◌≤◌}
@@ -28,9 +28,9 @@ go_row k ws cs (p ∷ q ∷ ps) =
 gather : {A : Type 0} (a b c d e w : Bool) (x y : A)
     → cond ((a && b) && (c && d)) (cond (e && w) x y) y ≡ cond ((a && (c && e)) && (b && (d && w))) x y
 gather false b c d e w x y = refl
-gather true false c d e w x y = rw (and_false (c && e))
+gather true false c d e w x y = rw (and-false (c && e))
 gather true true false d e w x y = refl
-gather true true true false e w x y = rw (and_false e)
+gather true true true false e w x y = rw (and-false e)
 gather true true true true e w x y = refl
 
 pub go-row : (k : ℕ) (ws cs : List ℕ) (ps : List (List ℕ))

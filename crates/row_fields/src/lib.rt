@@ -1,5 +1,8 @@
 // Reading the fields of a row, word and count in turn, from a record that is handed over without its CR LF.
 // Nothing here knows the protocol.
+
+#![tactic(auto)]
+
 ghost use Rattle.std.specs.Prelude.{◌≡◌, drop, set};
 ghost use Rattle.fields.specs.Fields.{parts};
 ghost use Rattle.row_fields.specs.Steps.{pair_of};
@@ -9,7 +12,7 @@ use fields::{Field, field_at};
 
 // A word, the count after it, the place after the comma that ends that, and whether the record's end ends it instead;
 // or a word with no count after it.
-#[derive(Drop)]
+#[derive(Clone, Copy)]
 enum Pair {
     Both(u16, u8, usize, bool),
     Odd(u16),
@@ -17,7 +20,7 @@ enum Pair {
 }
 
 // A row: number 0, how many fields it has, and the first eight words and counts (0 where there are fewer); or number 19 and nothing else.
-#[derive(Drop)]
+#[derive(Clone, Copy)]
 pub struct RowFields {
     pub number: u8,
     pub fields: usize,

@@ -1,4 +1,7 @@
 // Reading a row of minislots: its number, or its weight and what each minislot reads as.
+
+#![tactic(auto)]
+
 ghost use Rattle.std.specs.Prelude.{◌≡◌, ◌≤◌, length};
 ghost use Rattle.rows.specs.Row.{minislots_of, row_of};
 

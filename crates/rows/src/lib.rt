@@ -1,4 +1,7 @@
 // A row of minislots: its weight, and the answer where it is refused. What it reads as: specs/Row.
+
+#![tactic(auto)]
+
 ghost use Rattle.std.specs.Prelude.{◌≡◌, []};
 ghost use Rattle.rows.specs.Row.{row_answer, weight, feedback_in};
 

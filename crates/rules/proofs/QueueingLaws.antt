@@ -3,7 +3,7 @@
 -- beside a Collide.
 -- Assumes nothing.
 use mathlib.Core.Path.{◌≡◌, refl, sym}
-use mathlib.Core.Bool.{Bool, true, false, not, ◌||◌, cond, and_false}
+use mathlib.Core.Bool.{Bool, true, false, not, ◌||◌, cond, and-false}
 use mathlib.Core.List.{List, [], ◌∷◌}
 use Prim.Native.Nat.{ℕ, ◌+◌, ◌≤◌}
 use native.Mathlib.Omega.{arith}
@@ -112,7 +112,7 @@ after_is c row = refl
 
 -- beside a Collide success is not immediate, whatever the mark
 pub never-beside : (b : Bool) (row : List Feedback) → (collides row ≡ 0 → ⊥) → immediate b row ≡ false
-never-beside b row h = rw (ne_eqb (collides row) 0 h, and_false)
+never-beside b row h = rw (ne_eqb (collides row) 0 h, and-false)
 
 -- WHAT A ROW ADDS to each queue
 pub record Added (b : Bool) (p : Places) (row : List Feedback) : Type 0 where

@@ -1,7 +1,7 @@
 -- Laws of the station's rules, for whoever computes them one after the other: its own minislot is one of the row's; a new place is inside its queue's limit;
 -- refusal 12 tested one minislot after the other; and a slot by the row's reading. Assumes nothing.
 use mathlib.Core.Path.{◌≡◌, refl, ap, ◌∙◌, sym}
-use mathlib.Core.Bool.{Bool, true, false, cond, ◌&&◌, and_false}
+use mathlib.Core.Bool.{Bool, true, false, cond, ◌&&◌, and-false}
 use mathlib.Core.List.{List, [], ◌∷◌}
 use mathlib.Core.Logic.{◌≢◌}
 use Prim.Native.Nat.{ℕ, zero, suc, ◌+◌, ◌≤◌, ◌<◌}
@@ -92,7 +92,7 @@ module _ (index own total : ℕ) where
   hears_fails j (w ∷ words) (f ∷ row) zero h q e = let x : hears_at index own total j w f ≡ false = rw add-zero at e in rw x
   hears_fails j (w ∷ words) (f ∷ row) (suc k) h q e =
       let x : hears_at index own total (suc j + k) (get_or words k 0) (get_or row k Empty) ≡ false = rw (add-suc, ← suc-add j k) at e in
-      rw (hears_fails (suc j) words row k (le_of_suc-le-suc h) (le_of_suc-le-suc q) x, and_false)
+      rw (hears_fails (suc j) words row k (le_of_suc-le-suc h) (le_of_suc-le-suc q) x, and-false)
 
   -- and a row passes where each of its minislots that has a word does
   pub hears-holds : (j : ℕ) (words : List ℕ) (row : List Feedback)

@@ -1,8 +1,11 @@
 // The types of the protocol's state and of its answers. The rules over them are definitions in specs/.
+
+#![tactic(auto)]
+
 use minislot::Minislot;
 
 // What every station knows of the queues (paper: the counters). Group g stands at g − 1 of the two arrays.
-#[derive(Drop)]
+#[derive(Clone, Copy)]
 pub struct Counters {
     // minislots of a slot (paper: m)
     pub minislots: u8,
@@ -25,7 +28,7 @@ pub struct Counters {
 }
 
 // The lengths of the three queues that a slot of one group works on, while step 1 counts: wide enough for a sum that passes its limit.
-#[derive(Drop)]
+#[derive(Clone, Copy)]
 pub struct Places {
     pub urgent: u32,
     pub long: u32,
@@ -34,7 +37,7 @@ pub struct Places {
 
 // Step 1 of a slot, counted once: whether a Single of count 1 is immediate success, the lengths before the row and after it, and whether
 // those after it are within their limits.
-#[derive(Drop)]
+#[derive(Clone, Copy)]
 pub struct StepOne {
     pub success: bool,
     pub before: Places,
@@ -43,7 +46,7 @@ pub struct StepOne {
 }
 
 // The turn of a slot: whose stream its data slot carries, or which queue it serves.
-#[derive(Drop)]
+#[derive(Clone, Copy)]
 pub enum Turn {
     Owned { owner: u16 },
     Urgent,
@@ -54,7 +57,7 @@ pub enum Turn {
 
 // Where a message stands (paper: the conditions of a box). A held one is kept for the automation: it neither asks nor sends until it is
 // committed.
-#[derive(Drop)]
+#[derive(Clone, Copy)]
 pub enum Condition {
     Free,
     Fresh { total: u8 },
@@ -67,7 +70,7 @@ pub enum Condition {
 
 // Where step 1 takes the message that asked in a minislot: nowhere (nobody asked there, or success was immediate), or to a new place of a
 // queue.
-#[derive(Drop)]
+#[derive(Clone, Copy)]
 pub enum Landing {
     Gone,
     ToUrgent { place: u16 },
@@ -76,13 +79,13 @@ pub enum Landing {
 }
 
 // A minislot's landing: an array of enums is no covered field, so each stands in a struct.
-#[derive(Drop)]
+#[derive(Clone, Copy)]
 pub struct Landed {
     pub landing: Landing,
 }
 
 // The outcome of a slot: what all stations with the same counters have in common, worked out once from the counters and the row.
-#[derive(Drop)]
+#[derive(Clone, Copy)]
 pub struct Outcome {
     // the group whose slot it is
     pub group: u8,
@@ -98,7 +101,7 @@ pub struct Outcome {
 }
 
 // What a message does in a slot: its condition after it, the minislot of its request and the segment it sends (0 for none).
-#[derive(Drop)]
+#[derive(Clone, Copy)]
 pub struct Acted {
     pub condition: Condition,
     pub minislot: u8,
@@ -106,13 +109,13 @@ pub struct Acted {
 }
 
 // One of the two message records of a station: where its message stands, if it holds one.
-#[derive(Drop)]
+#[derive(Clone, Copy)]
 pub struct MessageRecord {
     pub condition: Condition,
 }
 
 // A station's record (paper: box).
-#[derive(Drop)]
+#[derive(Clone, Copy)]
 pub struct Station {
     pub counters: Counters,
     pub index: u16,
@@ -123,48 +126,48 @@ pub struct Station {
 }
 
 // A message record of a table: its station's index, and where its message stands.
-#[derive(Drop)]
+#[derive(Clone, Copy)]
 pub struct TableMessage {
     pub index: u16,
     pub condition: Condition,
 }
 
 // One group's minislots on the wire.
-#[derive(Drop)]
+#[derive(Clone, Copy)]
 pub struct WireRow {
     pub minislots: [Minislot; 8],
 }
 
 // The answer to starting: it went through, or the number of the refusal.
-#[derive(Drop)]
+#[derive(Clone, Copy)]
 pub enum StartAnswer {
     Ready,
     Refused(u8),
 }
 
 // The answer to listening: the turn, or the number of the refusal.
-#[derive(Drop)]
+#[derive(Clone, Copy)]
 pub enum ListenAnswer {
     Went(Turn),
     Refused(u8),
 }
 
 // Starting a listener: the answer, and the record (all zero if refused, which no later call takes).
-#[derive(Drop)]
+#[derive(Clone, Copy)]
 pub struct Started {
     pub answer: StartAnswer,
     pub counters: Counters,
 }
 
 // Listening: the answer, and the record after (as it was if refused).
-#[derive(Drop)]
+#[derive(Clone, Copy)]
 pub struct Listened {
     pub answer: ListenAnswer,
     pub counters: Counters,
 }
 
 // One of a station's two message records.
-#[derive(Drop)]
+#[derive(Clone, Copy)]
 pub enum Which {
     ShortOne,
     LongOne,
@@ -172,7 +175,7 @@ pub enum Which {
 
 // A call that writes one message record of one station. An offer and a hold have a message's bytes, and its length picks the record; a
 // commit and a withdrawal name the record.
-#[derive(Drop)]
+#[derive(Clone, Copy)]
 pub enum Writing {
     Offer { bytes: usize },
     Hold { bytes: usize },
@@ -181,7 +184,7 @@ pub enum Writing {
 }
 
 // The answer to a writing: the message's slot total, or the number of the refusal.
-#[derive(Drop)]
+#[derive(Clone, Copy)]
 pub enum WriteAnswer {
     Total(u8),
     Refused(u8),
@@ -189,7 +192,7 @@ pub enum WriteAnswer {
 
 // The answer to a station's slot: the turn, the minislot of its request and the segment it sends (0 for none); or the number of the
 // refusal.
-#[derive(Drop)]
+#[derive(Clone, Copy)]
 pub enum SlotAnswer {
     Went {
         turn: Turn,
@@ -200,21 +203,21 @@ pub enum SlotAnswer {
 }
 
 // Starting a station: the answer, and the record (all zero if refused).
-#[derive(Drop)]
+#[derive(Clone, Copy)]
 pub struct StationStarted {
     pub answer: StartAnswer,
     pub station: Station,
 }
 
 // Writing a message record of a station: the answer, and the record after (as it was if refused).
-#[derive(Drop)]
+#[derive(Clone, Copy)]
 pub struct StationWritten {
     pub answer: WriteAnswer,
     pub station: Station,
 }
 
 // A station's slot: the answer, the slot total that its request carries (0 for none), and the record after (as it was if refused).
-#[derive(Drop)]
+#[derive(Clone, Copy)]
 pub struct StationSlot {
     pub answer: SlotAnswer,
     pub request: u8,
@@ -222,21 +225,21 @@ pub struct StationSlot {
 }
 
 // The answer to setting a calendar: it went through, or the number of the refusal.
-#[derive(Drop)]
+#[derive(Clone, Copy)]
 pub enum CalendarAnswer {
     Set,
     Refused(u8),
 }
 
 // Setting a listener's calendar: the answer, and the record after (as it was if refused).
-#[derive(Drop)]
+#[derive(Clone, Copy)]
 pub struct CalendarSet {
     pub answer: CalendarAnswer,
     pub counters: Counters,
 }
 
 // Setting a station's calendar: the answer, and the record after (as it was if refused).
-#[derive(Drop)]
+#[derive(Clone, Copy)]
 pub struct StationSet {
     pub answer: CalendarAnswer,
     pub station: Station,
@@ -244,7 +247,7 @@ pub struct StationSet {
 
 // What the stations of a channel send in a slot: the group's new row, the number of data senders, and a lone one's index and segment (0
 // and 0 if there isn't just one).
-#[derive(Drop)]
+#[derive(Clone, Copy)]
 pub struct Sent {
     pub minislots: [Minislot; 8],
     pub senders: u8,
@@ -255,7 +258,7 @@ pub struct Sent {
 // The answer to a call on a channel: the number of the refusal; the slot total of a message that was offered, held, committed or
 // withdrawn; nothing more where a calendar was set; a slot's turn, its number of data senders, the index and segment of a lone sender (0
 // and 0 if there isn't just one), and the slots delivered in the call.
-#[derive(Drop)]
+#[derive(Clone, Copy)]
 pub enum Answer {
     Refused(u8),
     Taken(u8),

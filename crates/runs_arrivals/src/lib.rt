@@ -1,5 +1,8 @@
 // The arithmetic rule that arrivals, sizes and picks of driven channels come from: a number for each slot, station and question, the same
 // on every run.
+
+#![tactic(auto)]
+
 ghost use Rattle.std.specs.Prelude.{◌≡◌, ◌≤◌, length};
 
 pub const ARRIVES: u64 = 1;

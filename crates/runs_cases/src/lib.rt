@@ -1,6 +1,9 @@
 // Cases as lines of text, for the programs that check by running. A line has groups with a space between each two; a group is a word and
 // then its numbers, with a comma in front of each. A line whose first word a program doesn't know, such as `#`, is a note on the cases
 // after it.
+
+#![tactic(auto)]
+
 ghost use Rattle.std.specs.Prelude.{◌≡◌, ◌<◌, ◌≤◌, length};
 
 const SPACE: u8 = 32;
@@ -18,7 +21,7 @@ const LAST: u8 = 57;
 const MOST: usize = 24;
 
 // A group: its numbers, counted from 1 (0 where it has fewer than 24), how many there are, and the place where the next group begins.
-#[derive(Drop)]
+#[derive(Clone, Copy)]
 pub struct Group {
     pub numbers: [u64; 25],
     pub count: usize,

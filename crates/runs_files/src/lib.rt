@@ -1,4 +1,7 @@
 // A file of a run's folder, for the programs that check by running.
+
+#![tactic(auto)]
+
 ghost use Rattle.std.specs.Prelude.{◌≡◌, ◌≤◌, length, take};
 
 // Reads the file of this name as far as the buffer has room, and gives how many bytes came.

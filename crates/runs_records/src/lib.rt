@@ -8,6 +8,9 @@
 // where they are asked for.
 //
 // The calls that write a message record go by numbers too: 1 an offer, 2 a hold, 3 a commit, 4 a withdrawal.
+
+#![tactic(auto)]
+
 ghost use Rattle.std.specs.Prelude.{◌≡◌, length};
 
 use calendar_entries::FREE;

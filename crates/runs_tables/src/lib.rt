@@ -1,4 +1,7 @@
 // Tables and wires by value for the programs that check by running: one with something altered, and one after a call.
+
+#![tactic(auto)]
+
 ghost use Rattle.std.specs.Prelude.{◌≤◌};
 
 use coming_rules::ComingAnswer;

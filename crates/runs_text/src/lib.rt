@@ -3,6 +3,9 @@
 // What a program writes is a form with numbers put into it. A form is text in which `#` stands for a number in decimal digits, `?` for a
 // number as no (0) or yes (1), and `@` for one of a list of words, counted from 1. The numbers are taken one after the other; those that
 // the form has no sign for follow it, with a comma in front of each. A list of words has a space behind each word.
+
+#![tactic(auto)]
+
 ghost use Rattle.std.specs.Prelude.{◌≤◌};
 
 use libc::STDOUT_FILENO;

@@ -1,5 +1,8 @@
 // Whether two stations' counters are the same (paper 01, "The channel"; paper 02, T-02): m, n, next group, counters, Open marks, calendar
 // and position.
+
+#![tactic(auto)]
+
 ghost use Rattle.std.specs.Prelude.{◌≡◌, ◌&&◌, eqb};
 ghost use Rattle.std.specs.Bool.{beq};
 ghost use Rattle.channel_rules.specs.Soundness.{same_numbers, same_marks, same_counters};

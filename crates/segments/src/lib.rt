@@ -1,4 +1,7 @@
 // A message's segments, one for each of its slots.
+
+#![tactic(auto)]
+
 ghost use Rattle.std.specs.Prelude.{◌≡◌, [], min, length};
 ghost use Rattle.segments.specs.Segment.{segment_of, segment_number};
 

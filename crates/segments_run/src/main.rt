@@ -4,6 +4,9 @@
 // by the number and the slot total; a line `segment` a message's bytes and j, and is answered by the number, the part's bytes, and its
 // first and last byte (0 and 0 of an empty part). A line `urgent`, `long`, `resolve`, `open` or `owned` has the bytes of a short and of a
 // long message, j, and the owner of an owned turn, and is answered in the same way by the segment of the two.
+
+#![tactic(auto)]
+
 ghost use Rattle.std.specs.Prelude.{◌≡◌, ◌≤◌, length};
 
 use libc::STDIN_FILENO;

@@ -1,4 +1,7 @@
 // What the stations of a channel send in a slot, gathered one station after the other: the group's new row and the data senders.
+
+#![tactic(auto)]
+
 ghost use Rattle.std.specs.Prelude.{◌≡◌};
 ghost use Rattle.requests.specs.Together.{placed, carries};
 ghost use Rattle.channel_rules.specs.ChannelCalls.{speaks as speaksOf};

@@ -1,5 +1,8 @@
 // Who is served at each of the first places of both transmission queues together, as many as are asked for (paper 02, T-07): the urgent
 // queue's places come first. No place beyond them is looked at.
+
+#![tactic(auto)]
+
 ghost use Rattle.std.specs.Prelude.{◌≡◌, ◌-◌, min, take};
 ghost use Rattle.served_places.specs.Served.{put_of, put_station_of, served_of};
 

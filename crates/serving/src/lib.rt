@@ -1,5 +1,8 @@
 // Step 4 for one message: the segment that it sends, and the slots of it that wait. Each function is equal to its rule of crate `rules`,
 // for any condition.
+
+#![tactic(auto)]
+
 ghost use Rattle.std.specs.Prelude.{◌≡◌, ◌-◌};
 ghost use Rattle.rules.specs.Serving.{sends as sendsOf, urgent_segment, long_segment, open_segment, waiting as waitingOf};
 

@@ -1,4 +1,7 @@
 // The number of setting a channel's calendar, in order of checking, on a copy of the table.
+
+#![tactic(auto)]
+
 ghost use Rattle.std.specs.Prelude.{◌≡◌};
 ghost use Rattle.channel_rules.specs.ChannelCalls.{channel_calendar_number_of};
 ghost use Rattle.calls.specs.ByValue.{array_channel};

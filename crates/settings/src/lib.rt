@@ -1,4 +1,7 @@
 // Setting a channel's calendar: what it comes to, by its number, on a copy of the table.
+
+#![tactic(auto)]
+
 ghost use Rattle.std.specs.Prelude.{◌≡◌, map};
 ghost use Rattle.rules.specs.Settings.{calendar_on};
 ghost use Rattle.settings.specs.Setting.{set_of, setting_of};

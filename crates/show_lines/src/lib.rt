@@ -1,4 +1,7 @@
 // The lines that `show` of `rehearse` prints of a channel, written into a buffer. A line that does not fit is not written at all.
+
+#![tactic(auto)]
+
 ghost use Rattle.std.specs.Prelude.{◌≡◌, take};
 ghost use Rattle.programs.specs.Buffering.{put_lines, place_after_lines};
 ghost use Rattle.show_lines.specs.ShowLines.{show_lines};

@@ -1,4 +1,7 @@
 // The line that `rehearse` prints for a slot that went through, written into a buffer. What does not fit is not written at all.
+
+#![tactic(auto)]
+
 ghost use Rattle.std.specs.Prelude.{◌≡◌};
 ghost use Rattle.decimals.specs.Putting.{put_at, place_after};
 ghost use Rattle.slot_lines.specs.SlotLine.{slot_line};

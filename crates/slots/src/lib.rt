@@ -1,4 +1,7 @@
 // A slot of a channel, judged on a copy of the table before any station steps.
+
+#![tactic(auto)]
+
 ghost use Rattle.std.specs.Prelude.{◌≡◌};
 ghost use Rattle.calls.specs.ByValue.{array_channel};
 ghost use Rattle.slots.specs.Judging.{judged_refused, judged_of, JudgedOn};

@@ -1,5 +1,8 @@
 // A clause of a sound table (paper 01, "The channel"; paper 02, T-02) as code: all stations share m, n, next group, counters, Open marks,
 // calendar and position. And the counters of a table, those of its first station.
+
+#![tactic(auto)]
+
 ghost use Rattle.std.specs.Prelude.{◌≡◌, take};
 ghost use Rattle.channel_rules.specs.Soundness.{table_counters, counters_shared};
 

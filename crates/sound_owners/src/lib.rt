@@ -1,5 +1,8 @@
 // A clause of a sound table (paper 02, T-02) as code: every owner of a calendar's position is the index of a station of the table. The
 // indexes are drawn out of the table once.
+
+#![tactic(auto)]
+
 ghost use Rattle.std.specs.Prelude.{◌≡◌, take};
 ghost use Rattle.listlaws.specs.Lists.{each};
 ghost use Rattle.channel_rules.specs.Soundness.{entries_on};

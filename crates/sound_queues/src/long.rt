@@ -9,7 +9,7 @@ use rules::{Condition, TableMessage};
 use stretches::covered;
 
 // The stretch that a condition holds of the long queue, if it holds one.
-#[derive(Drop)]
+#[derive(Clone, Copy)]
 struct FoundStretch {
     found: bool,
     first: u16,
@@ -23,7 +23,7 @@ const NOT_LONG: FoundStretch = FoundStretch {
 };
 
 // The stretches that messages hold: the first `count` of the two lists.
-#[derive(Drop)]
+#[derive(Clone, Copy)]
 struct DrawnStretches {
     firsts: [u16; 128],
     lefts: [u8; 128],

@@ -10,7 +10,7 @@ use places::taken_once;
 use rules::{Condition, TableMessage};
 
 // The place that a condition holds in the urgent queue, if it holds one.
-#[derive(Drop)]
+#[derive(Clone, Copy)]
 struct FoundPlace {
     found: bool,
     place: u16,

@@ -1,5 +1,8 @@
 // A clause of a sound table (paper 01, "The channel") as code, over the messages of the table: each place of each group's resolution
 // queue has two messages or more.
+
+#![tactic(auto)]
+
 ghost use Rattle.std.specs.Prelude.{◌≡◌, ◌≤◌, take};
 ghost use Rattle.listlaws.specs.Lists.{gather_of};
 ghost use Rattle.crowds.specs.Crowds.{crowded};
@@ -11,14 +14,14 @@ use drawing::{DrawnPlaces, MOST_GROUPS, least};
 use rules::{Condition, TableMessage};
 
 // A place in a group's queue.
-#[derive(Drop)]
+#[derive(Clone, Copy)]
 struct GroupPlace {
     group: u8,
     place: u16,
 }
 
 // The place that a condition holds in its group's queue, if it holds one.
-#[derive(Drop)]
+#[derive(Clone, Copy)]
 struct FoundGroupPlace {
     found: bool,
     at: GroupPlace,
@@ -32,7 +35,7 @@ const NOT_RESOLVING: FoundGroupPlace = FoundGroupPlace {
 };
 
 // The places that messages hold in all groups: the first `count` of the list.
-#[derive(Drop)]
+#[derive(Clone, Copy)]
 struct DrawnGroupPlaces {
     list: [GroupPlace; 128],
     count: usize,

@@ -1,7 +1,7 @@
 -- The limits of records that share their counters: those of the counters once, and each station's index and message records under them. And the three
 -- clauses in the order in which the code tests them. Assumes nothing.
 use mathlib.Core.Path.{◌≡◌, refl, sym, ap, ◌∙◌}
-use mathlib.Core.Bool.{Bool, true, false, ◌&&◌, and_false}
+use mathlib.Core.Bool.{Bool, true, false, ◌&&◌, and-false}
 use mathlib.Core.List.{List, [], ◌∷◌}
 use Prim.Native.Nat.{◌≤◌}
 use native.Mathlib.Omega.{arith}
@@ -57,7 +57,7 @@ module _ (l : List Station) where
 
   pub shared_fail : counters_shared l ≡ false → false ≡ stations_sound l
   unfolding stations_sound
-  shared_fail e = rw (e, and_false)
+  shared_fail e = rw (e, and-false)
 
   pub records_fail : records_within l ≡ false → false ≡ stations_sound l
   unfolding stations_sound

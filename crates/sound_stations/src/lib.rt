@@ -1,5 +1,8 @@
 // The clauses of a sound table (paper 01, "The channel") on its stations alone, as code: counters shared, every station within its limits,
 // and indexes distinct.
+
+#![tactic(auto)]
+
 pub mod indexes;
 mod records;
 

@@ -1,5 +1,8 @@
 // A clause of a sound table (paper 01, "The channel") as code, over the messages of the table: each minislot of the wire equals the OR
 // over the messages asked there.
+
+#![tactic(auto)]
+
 ghost use Rattle.std.specs.Prelude.{◌≡◌, take, length, get_or};
 ghost use Rattle.listlaws.specs.Every.{every_from};
 ghost use Rattle.requests.specs.Together.{silent};

@@ -1,5 +1,8 @@
 // A sound table (paper 01, "The channel"; paper 02, T-02 and T-04) as code, on a table and a wire by value: the clauses on stations, those
 // on queues and wire, which go over the table's messages, two a station, drawn out once, and that on the calendar's owners.
+
+#![tactic(auto)]
+
 mod messages;
 
 ghost use Rattle.std.specs.Prelude.{◌≡◌, take};

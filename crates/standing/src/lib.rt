@@ -1,10 +1,13 @@
 // Where a run of a program that reads records stands between two calls of the system, and what a read and a write change of it. Nothing here
 // knows what the records are.
+
+#![tactic(auto)]
+
 ghost use Rattle.std.specs.Prelude.{◌≡◌, ◌+◌, min, length, take};
 ghost use Rattle.standing.specs.Standing.{begun_of, most_read, read_of, written_of};
 
 // What a run needs next: more bytes of the input; room in the output buffer; or, since it is over, only that the output is written.
-#[derive(Drop)]
+#[derive(Clone, Copy)]
 pub enum Wants {
     Read,
     Write,
@@ -12,7 +15,7 @@ pub enum Wants {
 }
 
 // Where a run stands.
-#[derive(Drop)]
+#[derive(Clone, Copy)]
 pub struct Run {
     // the bytes of the input buffer from here up to `filled` are still to be read as records
     pub from: usize,

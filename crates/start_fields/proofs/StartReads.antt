@@ -1,6 +1,6 @@
 -- The ways of the reader of a start's numbers, each a case of `start_in`: by the parts alone, and then by what was read of the bytes.
 -- Assumes nothing.
-use mathlib.Core.Bool.{Bool, true, false, cond, ◌&&◌, and_false, true≢false}
+use mathlib.Core.Bool.{Bool, true, false, cond, ◌&&◌, and-false, true≢false}
 use mathlib.Core.Path.{◌≡◌, refl, ap, sym, ◌∙◌}
 use mathlib.Core.List.{List, [], ◌∷◌}
 use Prim.Native.Nat.{ℕ, ◌<◌, ◌≤◌}
@@ -27,7 +27,7 @@ bad-first p (q ∷ qs) e = rw e
 
 bad-second : (p q : List ℕ) (qs : List (List ℕ)) → is_number 255 q ≡ false → start_in (p ∷ q ∷ qs) ≡ broken_start
 unfolding start_in
-bad-second p q qs e = rw (e, and_false (is_number 255 p))
+bad-second p q qs e = rw (e, and-false (is_number 255 p))
 
 pub start-unread : (at : ℕ) (ps : List (List ℕ)) → field_of at ps ≡ field.Broken → start_in ps ≡ broken_start
 unfolding start_in

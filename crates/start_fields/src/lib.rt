@@ -1,4 +1,7 @@
 // Reading the numbers of a start from a record of `rehearse`, which is handed over without its CR LF.
+
+#![tactic(auto)]
+
 ghost use Rattle.std.specs.Prelude.{◌≡◌, ◌≤◌};
 ghost use Rattle.fields.specs.Fields.{parts};
 ghost use Rattle.call_fields.specs.CallFields.{start_in, start_with, broken_start};

@@ -1,4 +1,7 @@
 // The number of a start of a channel, in order of checking.
+
+#![tactic(auto)]
+
 ghost use Rattle.std.specs.Prelude.{◌≡◌};
 ghost use Rattle.listlaws.specs.Lists.{each};
 ghost use Rattle.rules.specs.StationCalls.{is_index};

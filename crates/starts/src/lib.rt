@@ -1,4 +1,7 @@
 // A start of a channel: what it comes to, by its number.
+
+#![tactic(auto)]
+
 ghost use Rattle.std.specs.Prelude.{◌≡◌, ◌≤◌, length};
 ghost use Rattle.rules.specs.StationCalls.{start_station};
 ghost use Rattle.channel_rules.specs.ChannelCalls.{new_stations, blank_wire};
@@ -12,7 +15,7 @@ use start_numbers::start_number;
 use table::{Loaded, blanks, hold};
 
 // What a start comes to: the records to be written over the table (none where it is refused), and its reply.
-#[derive(Drop)]
+#[derive(Clone, Copy)]
 pub struct Beginning {
     pub loaded: Loaded,
     pub reply: StartReply,

@@ -1,4 +1,7 @@
 // The station (paper: box), by value: its start.
+
+#![tactic(auto)]
+
 ghost use Rattle.std.specs.Prelude.{◌≡◌};
 ghost use Rattle.rules.specs.StationCalls.{station_start_of, refused_start};
 ghost use Rattle.rules.specs.Numbers.{start_told};

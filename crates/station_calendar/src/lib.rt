@@ -1,4 +1,7 @@
 // Setting the calendar of a station by value.
+
+#![tactic(auto)]
+
 ghost use Rattle.std.specs.Prelude.{◌≡◌};
 ghost use Rattle.rules.specs.Settings.{station_calendar_of, refused_setting};
 ghost use Rattle.rules.specs.Numbers.{calendar_told};

@@ -15,6 +15,9 @@
 //
 // There are more cases than one buffer of 65,536 bytes takes, so the program fills it twice. No line may stand across the two: among the
 // cases are notes with nothing but dots, so long that a line ends with the last byte of the first buffer.
+
+#![tactic(auto)]
+
 use libc::STDIN_FILENO;
 use rules::{Counters, ListenAnswer, SlotAnswer, Station, WriteAnswer};
 use runs_cases::{
@@ -27,7 +30,7 @@ use runs_records::{
 use runs_text::{form, text};
 
 // The record that the next call is made on, and the one that was kept; a listener's record, and the recording that both hear.
-#[derive(Drop)]
+#[derive(Clone, Copy)]
 struct Records {
     last: Station,
     kept: Station,

@@ -1,4 +1,7 @@
 // A station's slot, by value: the tests in their order, then what the row that was heard leads to.
+
+#![tactic(auto)]
+
 ghost use Rattle.std.specs.Prelude.{◌≡◌, true};
 ghost use Rattle.rules.specs.StationLimits.{station_within};
 ghost use Rattle.rules.specs.StationCalls.{slot_of};

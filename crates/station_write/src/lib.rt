@@ -1,4 +1,7 @@
 // The calls that write one of the message records of a station by value.
+
+#![tactic(auto)]
+
 ghost use Rattle.std.specs.Prelude.{◌≡◌};
 ghost use Rattle.rules.specs.Writing.{refused_write, write_of};
 ghost use Rattle.rules.specs.Numbers.{write_told};

@@ -1,5 +1,8 @@
 // Step 1 of the counters: the lengths that a slot of the next group works on, before and after a row's newcomers join, and whether they
 // fit. Each function is equal to its rule of crate `rules`.
+
+#![tactic(auto)]
+
 ghost use Rattle.std.specs.Prelude.{◌≡◌};
 ghost use Rattle.rules.specs.Hearing.{feedback_of};
 ghost use Rattle.rules.specs.Queueing.{passes, places_of, step_one_of};

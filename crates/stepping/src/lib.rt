@@ -1,5 +1,8 @@
 // All that a station does in a slot that no test refuses, for the station's own slot and for the channel's walk alike. Each function is
 // equal to its rule of crate `rules`.
+
+#![tactic(auto)]
+
 ghost use Rattle.std.specs.Prelude.{◌≡◌};
 ghost use Rattle.rules.specs.Stepping.{asker as askerOf, sender as senderOf, request_total, step_of};
 

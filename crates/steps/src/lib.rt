@@ -1,5 +1,8 @@
 // What a message does in a slot, from the slot's outcome and the message's condition: steps 1 and 3 to 5, for any condition. Whoever keeps
 // the counters once applies it to each message.
+
+#![tactic(auto)]
+
 ghost use Rattle.std.specs.Prelude.{◌≡◌};
 ghost use Rattle.rules.specs.Stepping.{acts_of};
 

@@ -1,4 +1,7 @@
 // Following the records that stand in a stretch of bytes, one after another.
+
+#![tactic(auto)]
+
 ghost use Rattle.std.specs.Prelude.{◌≡◌};
 ghost use Rattle.programs.specs.Buffering.{buffered_of};
 ghost use Rattle.following.specs.FollowProgram.{follow_program};

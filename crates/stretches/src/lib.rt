@@ -1,11 +1,14 @@
 // Stretches of places in a queue, and whether they cover it: the first place of each in one list, its slots left in another. They know no
 // station.
+
+#![tactic(auto)]
+
 ghost use Rattle.std.specs.Prelude.{◌≡◌, eqb, length, drop};
 ghost use Rattle.listlaws.specs.Lists.{each, each_pair};
 ghost use Rattle.stretches.specs.Stretches.{stretches, slots_of, apart, covered};
 
 // A stretch of places: the first, and how many are left.
-#[derive(Drop)]
+#[derive(Clone, Copy)]
 pub struct Stretch {
     pub first: u16,
     pub left: u8,

@@ -1,5 +1,8 @@
 // The table of stations by value, for what needs all stations together. What a lent table is by value, and what it holds once one is written
 // back: specs/Loading.
+
+#![tactic(auto)]
+
 ghost use Rattle.std.specs.Prelude.{◌≡◌, get_or};
 ghost use Rattle.rules.specs.StationCalls.{no_station};
 ghost use Rattle.table.specs.Loading.{of, copies_of, blank_stations};
@@ -9,7 +12,7 @@ use drawing::least;
 use rules::Station;
 
 // The lent table by value: its first 64 records, and how many it has.
-#[derive(Drop)]
+#[derive(Clone, Copy)]
 pub struct Loaded {
     pub stations: [Station; 64],
     pub count: usize,

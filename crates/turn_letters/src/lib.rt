@@ -1,4 +1,7 @@
 // The letter that stands for a turn in a line.
+
+#![tactic(auto)]
+
 ghost use Rattle.std.specs.Prelude.{◌≡◌};
 ghost use Rattle.turn_letters.specs.Letters.{letter_of};
 

@@ -1,4 +1,7 @@
 // The segment of two messages: a part of the short or of the long one, by the turn.
+
+#![tactic(auto)]
+
 ghost use Rattle.std.specs.Prelude.{◌≡◌, ◌≤◌, length};
 ghost use Rattle.turn_segments.specs.TurnSegment.{within, taken_number, taken_part, turn_segment_number, turn_segment_of};
 

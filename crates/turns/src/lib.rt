@@ -1,4 +1,7 @@
 // Step 2: the turn; and how far a queue falls. Each function is equal to its rule of crate `rules`.
+
+#![tactic(auto)]
+
 ghost use Rattle.std.specs.Prelude.{◌≡◌, ◌-◌};
 ghost use Rattle.rules.specs.Calendars.{owner_in};
 ghost use Rattle.rules.specs.Turns.{turn_of, is_open};

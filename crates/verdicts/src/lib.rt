@@ -1,5 +1,8 @@
 // Whether a writing goes through: an offer, a hold, a commit or a withdrawal of a station. Each function is equal to its rule of crate
 // `rules`.
+
+#![tactic(auto)]
+
 ghost use Rattle.std.specs.Prelude.{◌≡◌};
 ghost use Rattle.message.specs.Message.{slots_for, slots_given_of};
 ghost use Rattle.rules.specs.Requesting.{total_of};
@@ -13,7 +16,7 @@ use requesting::total_of;
 use rules::{Condition, Station, Writing};
 
 // The number of the refusal, 0 where the writing goes through, and the slot total that it answers, 0 where it is refused.
-#[derive(Drop)]
+#[derive(Clone, Copy)]
 pub struct Verdict {
     pub number: u8,
     pub total: u8,

@@ -1,4 +1,7 @@
 // Reading the index and the record's name of a commit or a withdrawal from a record of `rehearse`, which is handed over without its CR LF.
+
+#![tactic(auto)]
+
 ghost use Rattle.std.specs.Prelude.{◌≡◌, drop};
 ghost use Rattle.fields.specs.Fields.{parts};
 ghost use Rattle.which_fields.specs.WhichFields.{named, which_in};
@@ -8,7 +11,7 @@ use prefixes::is_word;
 use rules::Which;
 
 // A commit's or a withdrawal's index and the record that it names, or number 19.
-#[derive(Drop)]
+#[derive(Clone, Copy)]
 pub enum WhichFields {
     Named(u16, Which),
     Broken,

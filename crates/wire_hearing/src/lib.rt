@@ -1,4 +1,7 @@
 // What a channel's slot reads before it is judged: its picks, and the next group's row of the wire.
+
+#![tactic(auto)]
+
 ghost use Rattle.std.specs.Prelude.{◌≡◌, ℕ, ◌-◌, get_or};
 ghost use Rattle.listlaws.specs.Lists.{each};
 ghost use Rattle.channel_rules.specs.ChannelCalls.{blank_row};

@@ -1,4 +1,7 @@
 // An index's word among the 924 patterns, put together from its two halves of six digits.
+
+#![tactic(auto)]
+
 ghost use Rattle.std.specs.Prelude.{◌≡◌, ◌≤◌, ◌<◌, get_or};
 ghost use Rattle.pattern.specs.Patterns.{word_of};
 ghost use Rattle.indexing.specs.Halves.{patterns_before};

@@ -1,4 +1,7 @@
 // Reading an offer, a hold, a commit or a withdrawal from a record of `rehearse`, which is handed over without its CR LF.
+
+#![tactic(auto)]
+
 ghost use Rattle.std.specs.Prelude.{◌≡◌, drop};
 ghost use Rattle.fields.specs.Fields.{parts};
 ghost use Rattle.call_fields.specs.CallFields.{offer_in};
@@ -11,7 +14,7 @@ use rules::Writing;
 use which_fields::{WhichFields, which_fields};
 
 // A station's index and what is written there, or number 19.
-#[derive(Drop)]
+#[derive(Clone, Copy)]
 pub enum WriteFields {
     At(u16, Writing),
     Broken,

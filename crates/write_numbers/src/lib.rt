@@ -1,4 +1,7 @@
 // The number of a writing on a channel, in order of checking, on a copy of the table.
+
+#![tactic(auto)]
+
 ghost use Rattle.std.specs.Prelude.{◌≡◌};
 ghost use Rattle.channel_rules.specs.ChannelCalls.{channel_write_number_of};
 ghost use Rattle.calls.specs.ByValue.{array_channel};

@@ -1,4 +1,7 @@
 // A writing on a channel: what an offer, a hold, a commit or a withdrawal comes to, by its number, on a copy of the table.
+
+#![tactic(auto)]
+
 ghost use Rattle.std.specs.Prelude.{◌≡◌, ◌<◌, get_or};
 ghost use Rattle.rules.specs.Calls.{writing_answer};
 ghost use Rattle.rules.specs.Writing.{writing_number_of};

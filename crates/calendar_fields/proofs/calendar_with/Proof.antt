@@ -1,7 +1,7 @@
 -- `calendar_with` meets its contract: the list's number is looked at first, then how many numbers there are. Assumes nothing.
 use borrow.Author.Rules.{rules}
 use borrow.Author.Tests.{eq-eqb, ne_eqb}
-use mathlib.Core.Bool.{and_false}
+use mathlib.Core.Bool.{and-false}
 use mathlib.Core.Path.{◌∙◌}
 use Rattle.calendar_fields.proofs.calendar_with.Statement.{statement}
 use Rattle.calendar_fields.proofs.calendar_with.Tie as tie
@@ -16,7 +16,7 @@ broken-calendar-requires-2 : tie.Need-broken-calendar-requires-2
 broken-calendar-requires-2 c κs = search rules
 
 returns-2 : tie.Need-returns-2
-returns-2 c = c.broken-calendar2.ensures ∙ rw (ne_eqb _ _ c.before.if2.true, and_false)
+returns-2 c = c.broken-calendar2.ensures ∙ rw (ne_eqb _ _ c.before.if2.true, and-false)
 
 first-entries-requires : tie.Need-first-entries-requires
 first-entries-requires c κs = search rules

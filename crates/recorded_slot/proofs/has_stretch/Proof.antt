@@ -1,6 +1,6 @@
 -- `has_stretch` tests the place, then what is left from it. Assumes nothing.
 use mathlib.Core.Path.{◌≡◌, refl, sym}
-use mathlib.Core.Bool.{Bool, true, false, and_false}
+use mathlib.Core.Bool.{Bool, true, false, and-false}
 use Prim.Native.Nat.{ℕ, ◌+◌, ◌-◌, ◌≤◌}
 use native.Mathlib.Omega.{arith}
 use lib.Dec.{leb}
@@ -20,7 +20,7 @@ returns : tie.Need-returns
 returns c = let a = c.before.args in rw (lt-leb (a.start + a.m) a.words (omega arith))
 
 returns-2 : tie.Need-returns-2
-returns-2 c = let a = c.before.before.args in rw (lt-leb (a.start + a.m) a.counts (omega arith), and_false)
+returns-2 c = let a = c.before.before.args in rw (lt-leb (a.start + a.m) a.counts (omega arith), and-false)
 
 returns-3 : tie.Need-returns-3
 returns-3 c = let a = c.before.before.before.args in rw (lt-leb (a.start + a.m) a.words (omega arith))

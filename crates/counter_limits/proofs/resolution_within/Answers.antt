@@ -1,0 +1,42 @@
+-- `resolution_within` tests each group's RQ in turn: each one before i passed, and one that fails fails the list.
+-- Assumes nothing.
+use mathlib.Core.Path.{◌≡◌, sym}
+use mathlib.Core.Bool.{true}
+use mathlib.Core.Logic.{⊎_elim}
+use Prim.Native.Nat.{◌-◌}
+use native.Mathlib.Omega.{arith}
+use borrow.Author.Rules.{rules}
+use lib.ListN.{length}
+use Rattle.listlaws.proofs.Table.{every_fails, every_holds}
+use Rattle.counter_limits.proofs.Arms.{resolution-fits, resolution-over, resolution-idle, resolution_stray}
+use borrow.Author.Count.{below_more}
+use Rattle.rules.specs.Limits.{resolution_within}
+use Rattle.counter_limits.proofs.resolution_within.Goals as goal
+
+pub loop-i-init : goal.loop-i-init
+loop-i-init c = (omega arith, λ k h. absurd (omega arith))
+
+pub returns-then-r-gt-RESOLUTION_LIMIT : goal.returns-then-r-gt-RESOLUTION_LIMIT
+returns-then-r-gt-RESOLUTION_LIMIT c =
+    let a = c.args in
+    let w : length a.resolution ≡ 8 = search rules in
+    sym (every_fails (resolution_within a.n) 0 a.resolution c.loop-i.i (omega arith) (resolution-over a.n c.loop-i.i _ (omega arith) c.if-r-gt-RESOLUTION_LIMIT.true))
+
+pub returns-then-r-ne0 : goal.returns-then-r-ne0
+returns-then-r-ne0 c =
+    let a = c.args in
+    let w : length a.resolution ≡ 8 = search rules in
+    sym (every_fails (resolution_within a.n) 0 a.resolution c.loop-i.i (omega arith) (resolution_stray a.n c.loop-i.i _ (omega arith) c.if-r-ne0.true))
+
+pub loop-i-preserved : goal.loop-i-preserved
+loop-i-preserved c = (
+  omega arith,
+  below_more _ _ c.loop-i.invariant.1
+      (⊎_elim (λ w. resolution-fits c.args.n c.loop-i.i _ (omega arith) w.1.left) (λ w. resolution-idle c.args.n c.loop-i.i _ (omega arith) w.1.left) c.if-i-groups.branch),
+)
+
+pub returns : goal.returns
+returns c =
+    let a = c.args in
+    let w : length a.resolution ≡ 8 = search rules in
+    sym (every_holds (resolution_within a.n) 0 a.resolution (λ k h. c.loop-i.invariant.1 k (omega arith)))
