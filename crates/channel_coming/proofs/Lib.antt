@@ -1,4 +1,2 @@
--- ByValue: the channel by value is the lent one. Values, Loans: the data and the functions that the walk uses.
-pub mod Values
+-- ByValue: the channel by value is the lent one.
 mod ByValue
-mod Loans

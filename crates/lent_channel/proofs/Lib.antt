@@ -1,4 +1,2 @@
--- What the four walks over the lent room share, and the law by which the calls for any count cite them.
-pub mod Values
-mod Callees
+-- Counts: the law by which the calls for any count cite those of a part.
 pub mod Counts

@@ -1,11 +1,9 @@
 -- A channel by value has room for 65 records, so that the first `min count 65` of them are the first `count`. And what a call on them leaves is told as the paper
 -- tells it: both halves of the contract at once, of the first. Assumes nothing.
-use mathlib.Core.Path.{◌≡◌, sym, ap, ◌∙◌}
+use mathlib.Core.Path.{◌≡◌, ap, ◌∙◌}
 use mathlib.Core.List.{List}
 use Prim.Native.Nat.{ℕ, min}
-use lib.ListN.{length, take, length-map}
-use denote.Laws.{Is}
-use denote.Struct.Laws as LL
+use lib.ListN.{length, take}
 use Rattle.rules.specs.declared.Station.{Station}
 use Rattle.calls.specs.ByValue.{channel_of}
 use Rattle.coming_rules.specs.declared.ComingAnswer.{ComingAnswer}
@@ -16,22 +14,12 @@ use Rattle.lent_channel.specs.Lent.{lent_of}
 use Rattle.lent_channel.proofs.Counts.{first_of}
 use Rattle.local_channel.specs.declared.LocalChannel.{LocalChannel}
 use Rattle.local_channel.specs.Local.{lent_by}
-use Rattle.local_channel.specs.contracts.LocalChannel as L
-use Rattle.local_channel.proofs.LocalChannel.TheLaws as L'
-use Rattle.lending.proofs.DataKinds.{Kind, vals, of_struct}
-
-abbrev by_value : Kind
-by_value = of_struct L.the_type L'.the_laws L'.the_plain L'.the_copy
 
 module _ (c : LocalChannel) (list : List ℕ) where
-  -- its type says so
-  room_65 : Is by_value.R c (vals by_value c) → length c.stations ≡ 65
-  room_65 g = sym (length-map c.stations _) ∙ (LL.owed L.the_type L'.the_laws c _ g).0.1.0.1
-
-  pub lends_the_first : Is by_value.R c (vals by_value c) → (k : ℕ) → k ≡ min c.count 65 → coming_of (lent_of c.stations k c.wire) list ≡ coming_of (lent_by c) list
-  lends_the_first g k e =
+  pub lends_the_first : length c.stations ≡ 65 → (k : ℕ) → k ≡ min c.count 65 → coming_of (lent_of c.stations k c.wire) list ≡ coming_of (lent_by c) list
+  lends_the_first full k e =
       ap (λ (stations : List Station). coming_of (channel_of stations c.wire) list)
-      (ap (λ (n : ℕ). take n c.stations) e ∙ first_of c.stations (room_65 g) c.count)
+      (ap (λ (n : ℕ). take n c.stations) e ∙ first_of c.stations full c.count)
 
   pub coming-both : {zs : List ℕ} {r : ComingAnswer} → leaves_coming zs r ≡ coming_of (lent_by c) list
       → (leaves_coming zs r ≡ coming_of (lent_by c) list) × (coming_told r ≡ coming_told_of (lent_by c) (length list))

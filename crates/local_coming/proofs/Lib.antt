@@ -1,3 +1,2 @@
--- Callees: the call that the walk makes. Lending: what is lent of a channel by value, and told.
-mod Callees
+-- Lending: what is lent of a channel by value, and told.
 mod Lending

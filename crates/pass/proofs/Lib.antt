@@ -1,5 +1,2 @@
--- The pass over the lent table: what it has done after i stations, the data and the functions that its walk uses.
+-- What the pass over a table has done after i stations.
 mod Passes
-pub mod Values
-mod Uses
-pub mod Loans

@@ -4,8 +4,8 @@
 
 ghost use Rattle.std.specs.Prelude.{◌≡◌};
 ghost use Rattle.requests.specs.Together.{placed, carries};
-ghost use Rattle.channel_rules.specs.ChannelCalls.{speaks as speaksOf};
-ghost use Rattle.sending.specs.Gathered.{silence as silenceOf, station_request, one_more, with_data, gathered};
+ghost use Rattle.channel_rules.specs.ChannelCalls.{speaks as speaks_of};
+ghost use Rattle.sending.specs.Gathered.{silence as silence_of, station_request, one_more, with_data, gathered};
 
 use minislot::Minislot;
 use requests::{carry, place};
@@ -16,7 +16,7 @@ const MOST_SENDERS: u8 = 255;
 
 // Nobody has sent anything.
 pub fn silence() -> Sent
-    ensures { result ≡ silenceOf }
+    ensures { result ≡ silence_of }
 {
     Sent {
         minislots: [Minislot { word: 0, count: 0 }; 8],
@@ -48,7 +48,7 @@ fn one_more(senders: u8) -> u8
 
 // Whether a station sends data: in an owned slot its owner alone, else whoever sends a segment of its message.
 fn speaks(turn: Turn, index: u16, segment: u8) -> bool
-    ensures { result ≡ speaksOf turn index segment }
+    ensures { result ≡ speaks_of turn index segment }
 {
     match turn {
         Turn::Owned { owner } => index == owner,

@@ -1,5 +1,5 @@
 -- Who is served at each of the first w places of H and N together, H's first (paper 02, T-07), as a list of 1,024: nobody at first,
--- then each message puts its station's index at those of its places that are among the first w. That this is servedAt of crate
+-- then each message puts its station's index at those of its places that are among the first w. That this is served_at of crate
 -- `coming_rules`: proofs/ServedLaws. Assumes nothing.
 use mathlib.Core.List.{List, foldl}
 use Rattle.std.specs.Prelude.{ℕ, zero, suc, ◌-◌, min, set}

@@ -4,7 +4,7 @@
 #![tactic(auto)]
 
 ghost use Rattle.std.specs.Prelude.{◌≡◌, ◌-◌};
-ghost use Rattle.rules.specs.Serving.{sends as sendsOf, urgent_segment, long_segment, open_segment, waiting as waitingOf};
+ghost use Rattle.rules.specs.Serving.{sends as sends_of, urgent_segment, long_segment, open_segment, waiting as waiting_of};
 
 use requesting::{requests, total_of};
 use rules::{Condition, Turn};
@@ -12,7 +12,7 @@ use turns::less_one;
 
 // The slots of a message that wait.
 pub fn waiting(k: Condition) -> u8
-    ensures { result ≡ waitingOf k }
+    ensures { result ≡ waiting_of k }
 {
     match k {
         Condition::Free => 0,
@@ -80,7 +80,7 @@ fn open_segment(requesting: bool, total: u8) -> u8
 // The segment that a message sends in a slot of group g, 0 for none, from its condition after step 1; r is the group's RQ then. In an
 // owned slot no message sends.
 pub fn sends(t: Turn, r: u32, g: u8, k: Condition) -> u8
-    ensures { result ≡ sendsOf t r g k }
+    ensures { result ≡ sends_of t r g k }
 {
     match t {
         Turn::Owned { .. } => 0,

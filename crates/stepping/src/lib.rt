@@ -4,7 +4,7 @@
 #![tactic(auto)]
 
 ghost use Rattle.std.specs.Prelude.{◌≡◌};
-ghost use Rattle.rules.specs.Stepping.{asker as askerOf, sender as senderOf, request_total, step_of};
+ghost use Rattle.rules.specs.Stepping.{asker as asker_of, sender as sender_of, request_total, step_of};
 
 use beside::acts_both;
 use requesting::total_of;
@@ -12,14 +12,14 @@ use rules::{Acted, MessageRecord, Outcome, SlotAnswer, Station, StationSlot};
 
 // Of what a station's two messages do, first the short one: the message that asks.
 fn asker(x: Acted, y: Acted) -> Acted
-    ensures { result ≡ askerOf x y }
+    ensures { result ≡ asker_of x y }
 {
     if x.minislot == 0 { y } else { x }
 }
 
 // The message that sends.
 fn sender(x: Acted, y: Acted) -> Acted
-    ensures { result ≡ senderOf x y }
+    ensures { result ≡ sender_of x y }
 {
     if x.segment == 0 { y } else { x }
 }

@@ -31,7 +31,7 @@ returns-then-is_word c =
       sym c.begins_with.ensures ∙ c.if-begins_with.false,
       sym c.begins_with-2.ensures ∙ c.if-begins_with-2.false,
       sym c.begins_with-3.ensures ∙ c.if-begins_with-3.false,
-      sym c.is_IsWord.ensures ∙ c.if-is_word.true,
+      sym c.is_word.ensures ∙ c.if-is_word.true,
     )
 
 pub returns-then-is_word-2 : goal.returns-then-is_word-2
@@ -41,7 +41,7 @@ returns-then-is_word-2 c =
       sym c.begins_with.ensures ∙ c.if-begins_with.false,
       sym c.begins_with-2.ensures ∙ c.if-begins_with-2.false,
       sym c.begins_with-3.ensures ∙ c.if-begins_with-3.false,
-      sym c.is_IsWord.ensures ∙ c.if-is_word.false,
+      sym c.is_word.ensures ∙ c.if-is_word.false,
       sym c.is_word-2.ensures ∙ c.if-is_word-2.true,
     )
 
@@ -53,6 +53,6 @@ returns c =
       sym c.begins_with.ensures ∙ c.if-begins_with.false,
       sym c.begins_with-2.ensures ∙ c.if-begins_with-2.false,
       sym c.begins_with-3.ensures ∙ c.if-begins_with-3.false,
-      sym c.is_IsWord.ensures ∙ c.if-is_word.false,
+      sym c.is_word.ensures ∙ c.if-is_word.false,
       sym c.is_word-2.ensures ∙ c.if-is_word-2.false,
     )

@@ -2,7 +2,6 @@
 -- Assumes nothing.
 use mathlib.Core.Path.{◌≡◌, sym}
 use mathlib.Core.Bool.{true}
-use mathlib.Core.Logic.{⊎_elim}
 use Prim.Native.Nat.{◌-◌}
 use native.Mathlib.Omega.{arith}
 use borrow.Author.Rules.{rules}
@@ -12,6 +11,7 @@ use Rattle.counter_limits.proofs.Arms.{resolution-fits, resolution-over, resolut
 use borrow.Author.Count.{below_more}
 use Rattle.rules.specs.Limits.{resolution_within}
 use Rattle.counter_limits.proofs.resolution_within.Goals as goal
+use Rattle.counter_limits.proofs.resolution_within.Goals.{then-i-groups+else-r-gt-RESOLUTION_LIMIT, else-i-groups+else-r-ne0}
 
 pub loop-i-init : goal.loop-i-init
 loop-i-init c = (omega arith, λ k h. absurd (omega arith))
@@ -31,8 +31,9 @@ returns-then-r-ne0 c =
 pub loop-i-preserved : goal.loop-i-preserved
 loop-i-preserved c = (
   omega arith,
-  below_more _ _ c.loop-i.invariant.1
-      (⊎_elim (λ w. resolution-fits c.args.n c.loop-i.i _ (omega arith) w.1.left) (λ w. resolution-idle c.args.n c.loop-i.i _ (omega arith) w.1.left) c.if-i-groups.branch),
+  below_more _ _ c.loop-i.invariant.1 (elim c.if-i-groups.branch [
+    | then-i-groups+else-r-gt-RESOLUTION_LIMIT w ↦ resolution-fits c.args.n c.loop-i.i _ (omega arith) w.if-r-gt-RESOLUTION_LIMIT.false
+    | else-i-groups+else-r-ne0 w ↦ resolution-idle c.args.n c.loop-i.i _ (omega arith) w.if-r-ne0.false ]),
 )
 
 pub returns : goal.returns

@@ -1,5 +1,5 @@
 -- `times` counts one place after the other: the count, and that of what is left of the list, is the list's. Assumes nothing.
-use Prim.Native.Nat.{◌-◌, ◌≤◌}
+use Prim.Native.Nat.{◌≤◌}
 use native.Mathlib.Omega.{arith}
 use borrow.Author.Tests.{eq-eqb, ne_eqb}
 use lib.Dec.{eqb}
@@ -17,12 +17,12 @@ loop-i-preserved c =
     let a = c.args in
     let e = rest a.places.now l.i 0 (omega arith) in
     elim c.if-x-places.branch [
-      then-x-places w ↦ (
+      | then-x-places w ↦ (
         omega arith,
         omega (arith, w.n-is),
         omega (arith, w.n-is, l.invariant.2, count-one e (eqb a.x) (eq-eqb _ _ w.if-x-places.true)),
       )
-    | else-x-places w ↦ (
+      | else-x-places w ↦ (
         omega arith,
         omega (arith, w.n-is),
         omega (arith, w.n-is, l.invariant.2, count_same e (eqb a.x) (ne_eqb _ _ w.if-x-places.false)),

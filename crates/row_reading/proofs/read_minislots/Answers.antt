@@ -2,7 +2,7 @@
 -- refused one gives its number, and after the last the answer is the whole row's, with the weight of the array.
 -- Assumes nothing.
 use mathlib.Core.Path.{◌≡◌, refl, ◌∙◌, sym}
-use Prim.Native.Nat.{◌-◌, ◌<◌}
+use Prim.Native.Nat.{◌<◌}
 use native.Mathlib.Numerals.{add-one}
 use native.Mathlib.Omega.{arith}
 use lib.ListN.{length, get_or, take}
@@ -20,7 +20,6 @@ loop-j-init c = (omega arith, refl, refl)
 
 pub returns-in-Refused : goal.returns-in-Refused
 returns-in-Refused c =
-    
     let l = c.loop-j in
     let a = c in
     let here = readings-at a.args.words.now a.args.counts.now l.j (Refused 0) (omega arith) (omega arith)

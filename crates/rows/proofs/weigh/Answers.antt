@@ -2,7 +2,7 @@
 -- (`weight-fits`), so that none passes a byte.
 -- Assumes nothing.
 use mathlib.Core.Path.{◌≡◌, refl, ap, ◌∙◌, sym}
-use Prim.Native.Nat.{suc, ◌+◌, ◌-◌, ◌≤◌}
+use Prim.Native.Nat.{suc, ◌+◌, ◌≤◌}
 use native.Mathlib.Numerals.{add-one}
 use native.Mathlib.Omega.{arith}
 use borrow.Author.Rules.{rules}
@@ -27,9 +27,9 @@ heard c = (get_or c.args.minislots c.loop-i.i (record { feedback = Empty })).fee
 added : (c : goal.After-row_known-1) → c.match-feedback.tally ≡ weight_of (heard c)
 added c =
     elim c.match-feedback.branch [
-      in-Empty w ↦ w.tally-is ∙ sym (ap weight_of w.in-Empty.is)
-    | in-Single w ↦ w.tally-is ∙ sym (ap weight_of w.in-Single.is)
-    | in-Collide w ↦ w.tally-is ∙ sym (ap weight_of w.in-Collide.is)
+      | in-Empty w ↦ w.tally-is ∙ sym (ap weight_of w.in-Empty.is)
+      | in-Single w ↦ w.tally-is ∙ sym (ap weight_of w.in-Single.is)
+      | in-Collide w ↦ w.tally-is ∙ sym (ap weight_of w.in-Collide.is)
     ]
 
 -- so the sum is the weight of one minislot more

@@ -33,57 +33,44 @@ given message j f w end h =
     let e : segment_number (length message) j ≡ 0 = number-given (length message) j f w.0 w.1 in
     (take_to (48 * (j - 1)) 48 end message h ∙ sym (segment-given message j e w.0), sym e)
 
--- past the `let .. else`, the message fits and its slot total is known
-taken : (c : goal.In-Slots)
-    → (fits_message (length c.args.message.now) ≡ true)
-    × (slots_for (length c.args.message.now) ≡ c.in-Slots.total)
-taken c = taken-from _ _ (sym c.slots.ensures.answer ∙ c.in-Slots.is)
-
--- in the `else`, it does not fit
-untaken : (c : goal.In_default) → fits_message (length c.args.message.now) ≡ false
-untaken c = (refused-from _ _ (sym c.slots.ensures.answer ∙ c.in_default.is)).0
-
--- a segment starts within the message
-starts : (c : goal.Else-j-total)
-    → 48 * (c.args.j - 1)
-    < length c.args.message.now
-starts c = omega (arith, taken c, slots-hold (length c.args.message.now))
-
--- past both tests, the segment is one of the message's
-within : (c : goal.Else-j-total)
-    → (1 ≤ c.args.j)
-    × (c.args.j
-    ≤ slots_for (length c.args.message.now))
-within c = omega (arith, taken c)
+-- a segment up to the slot total starts within the message
+starts : (bytes j total : ℕ) → (fits_message bytes ≡ true) × (slots_for bytes ≡ total) → j ≤ total → 1 ≤ j → 48 * (j - 1) < bytes
+starts bytes j total t low high = omega (arith, t, slots-hold bytes)
 
 pub returns-in_default : goal.returns-in_default
 unfolding Answer
 returns-in_default c =
-    let all_told = refused _ _ 10 (number_size _ _ (((refused-from _ _ (sym c.slots.ensures.answer ∙ c.in_default.is)).0))) (omega arith) _ _ c.refuse.ensures in
-    record { part = all_told.0; told = all_told.1 }
+    let u = (refused-from _ _ (sym c.slots.ensures.answer ∙ c.in_default.is)).0 in
+    let told = refused _ _ 10 (number_size _ _ u) (omega arith) _ _ (c.refuse.ensures.part, c.refuse.ensures.told) in
+    record { part = told.0; told = told.1 }
 
 pub returns-then-j-eq0 : goal.returns-then-j-eq0
 unfolding Answer
 returns-then-j-eq0 c =
-    let all_told = refused _ _ 13 (number-none _ _ ((taken-from _ _ (sym c.slots.ensures.answer ∙ c.in-Slots.is))).0 (omega arith)) (omega arith) _ _ c.refuse-then-j-eq0.ensures in
-    record { part = all_told.0; told = all_told.1 }
+    let t = taken-from _ _ (sym c.slots.ensures.answer ∙ c.in-Slots.is) in
+    let told = refused _ _ 13 (number-none _ _ t.0 (omega arith)) (omega arith) _ _ (c.refuse-then-j-eq0.ensures.part, c.refuse-then-j-eq0.ensures.told) in
+    record { part = told.0; told = told.1 }
 
 pub returns-then-j-total : goal.returns-then-j-total
 unfolding Answer
 returns-then-j-total c =
-    let all_told = let w : goal.In-Slots = c.before.before.before.before in
-    refused _ _ 13 (number-over _ _ (taken w).0 (omega (arith, taken w))) (omega arith) _ _ c.refuse-then-j-total.ensures in
-    record { part = all_told.0; told = all_told.1 }
+    let t = taken-from _ _ (sym c.slots.ensures.answer ∙ c.in-Slots.is) in
+    let told = refused _ _ 13 (number-over _ _ t.0 (omega (arith, t))) (omega arith) _ _ (c.refuse-then-j-total.ensures.part, c.refuse-then-j-total.ensures.told) in
+    record { part = told.0; told = told.1 }
 
 pub slice_bounds-result-count : goal.slice_bounds-result-count
-slice_bounds-result-count c = omega (arith, (omega (arith, (taken-from _ _ (sym c.slots.ensures.answer ∙ c.in-Slots.is)), slots-hold (length c.args.message.now))))
+slice_bounds-result-count c =
+    let t = taken-from _ _ (sym c.slots.ensures.answer ∙ c.in-Slots.is) in
+    omega (arith, starts _ c.args.j _ t (omega arith) (omega arith))
 
 pub slice_bounds-result-start : goal.slice_bounds-result-start
-slice_bounds-result-start c = omega (arith, (omega (arith, (taken-from _ _ (sym c.slots.ensures.answer ∙ c.in-Slots.is)), slots-hold (length c.args.message.now))))
+slice_bounds-result-start c =
+    let t = taken-from _ _ (sym c.slots.ensures.answer ∙ c.in-Slots.is) in
+    omega (arith, starts _ c.args.j _ t (omega arith) (omega arith))
 
 pub returns : goal.returns
 unfolding Answer
 returns c =
-    let all_told = let w : goal.Else-j-total = c.before.before in
-    given _ _ (taken w.before.before).0 (within w) c.least-end.result (omega arith) in
-    record { part = all_told.0; told = all_told.1 }
+    let t = taken-from _ _ (sym c.slots.ensures.answer ∙ c.in-Slots.is) in
+    let told = given _ _ t.0 (omega arith, omega (arith, t)) c.least-end.result (omega arith) in
+    record { part = told.0; told = told.1 }

@@ -1,7 +1,7 @@
 -- `slots_fill` takes one stretch's slots after the other away from the queue's places: the places still free, with the slots of the stretches so far, are
 -- the queue's. Assumes nothing.
 use mathlib.Core.Path.{refl, sym}
-use Prim.Native.Nat.{◌-◌, ◌≤◌}
+use Prim.Native.Nat.{◌≤◌}
 use native.Mathlib.Omega.{arith}
 use borrow.Author.Tests.{ne_eqb}
 use lib.ListN.{length, drop_of_length-le}

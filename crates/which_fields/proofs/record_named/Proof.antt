@@ -13,7 +13,7 @@ is-word-requires c κs = search rules
 
 returns : tie.Need-returns
 unfolding named
-returns c = rw (sym c.before.is_IsWord.ensures ∙ c.if1.true)
+returns c = rw (sym c.before.is_word.ensures ∙ c.if1.true)
 
 slice-aggregate-is-word-2 : tie.Need-slice-aggregate-is-word-2
 slice-aggregate-is-word-2 c = search rules
@@ -25,7 +25,7 @@ returns-2 : tie.Need-returns-2
 unfolding named
 returns-2 c =
     rw (
-      sym c.before.before.before.before.is_IsWord.ensures ∙ c.before.before.before.if1.false,
+      sym c.before.before.before.before.is_word.ensures ∙ c.before.before.before.if1.false,
       sym c.before.is-word2.ensures ∙ c.if2.true,
     )
 
@@ -33,7 +33,7 @@ returns-3 : tie.Need-returns-3
 unfolding named
 returns-3 c =
     rw (
-      sym c.before.before.before.before.is_IsWord.ensures ∙ c.before.before.before.if1.false,
+      sym c.before.before.before.before.is_word.ensures ∙ c.before.before.before.if1.false,
       sym c.before.is-word2.ensures ∙ c.if2.false,
     )
 

@@ -1,6 +1,6 @@
 -- `reached` counts one upper half after the other: the count, and that of what is left of the list, is the list's. Assumes nothing.
 use mathlib.Core.Path.{◌≡◌, ap, ◌∙◌}
-use Prim.Native.Nat.{◌-◌, ◌≤◌}
+use Prim.Native.Nat.{◌≤◌}
 use native.Mathlib.Omega.{arith}
 use borrow.Author.Tests.{le-leb, lt-leb}
 use lib.Dec.{leb}
@@ -22,12 +22,12 @@ loop-h-preserved c =
     let w : length a.before.now ≡ 64 = ap length s.requires ∙ count_of_uppers in
     let e = rest a.before.now l.h 0 (omega arith) in
     elim c.if-before-h.branch [
-      then-before-h w ↦ (
+      | then-before-h w ↦ (
         omega arith,
         omega (arith, w.n-is),
         omega (arith, w.n-is, l.invariant.2, count-one e (λ b. leb b a.index) (le-leb _ _ w.if-before-h.true)),
       )
-    | else-before-h w ↦ (
+      | else-before-h w ↦ (
         omega arith,
         omega (arith, w.n-is),
         omega (arith, w.n-is, l.invariant.2, count_same e (λ b. leb b a.index) (lt-leb _ _ w.if-before-h.false)),
