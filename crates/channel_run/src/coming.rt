@@ -6,6 +6,7 @@ use local_channel::LocalChannel;
 use runs_records::refused_line;
 use runs_tables::{foreseen, least};
 use runs_text::{fields, form, text};
+use std::io;
 
 // Room for a list: 1000, 1001, ..
 fn room() -> [u16; 1030]
@@ -22,41 +23,42 @@ fn room() -> [u16; 1030]
     room
 }
 
-fn answer_line(answer: ComingAnswer) {
+fn answer_line(rt: &impl Print, answer: ComingAnswer) -> io::Result<()> {
     match answer {
         ComingAnswer::Until(slots) => {
             let numbers = [slots as u64];
-            form(b"until,#\n", &numbers);
+            form(rt, b"until,#\n", &numbers)
         }
-        ComingAnswer::Refused(number) => refused_line(number),
+        ComingAnswer::Refused(number) => refused_line(rt, number),
     }
 }
 
-fn entry_field(entry: u16) {
+fn entry_field(rt: &impl Print, entry: u16) -> io::Result<()> {
     let numbers = [entry as u64];
-    fields(&numbers);
+    fields(rt, &numbers)
 }
 
-fn list_fields(list: &[u16]) {
+fn list_fields(rt: &impl Print, list: &[u16]) -> io::Result<()> {
     let mut k: usize = 0;
     while k < list.len() {
-        entry_field(list[k]);
+        entry_field(rt, list[k])?;
         k += 1;
     }
+    Ok(())
 }
 
 // The call on this list: its answer, then the list.
-fn call(c: LocalChannel, list: &mut [u16]) {
-    answer_line(foreseen(c, list));
-    text(b"list");
-    list_fields(list);
-    text(b"\n");
+fn call(rt: &impl Print, c: LocalChannel, list: &mut [u16]) -> io::Result<()> {
+    answer_line(rt, foreseen(c, list))?;
+    text(rt, b"list")?;
+    list_fields(rt, list)?;
+    text(rt, b"\n")
 }
 
 // The call with a list of so many entries, up to 1,030.
-pub(crate) fn coming(c: LocalChannel, w: usize) {
+pub(crate) fn coming(rt: &impl Print, c: LocalChannel, w: usize) -> io::Result<()> {
     let mut space = room();
     let list: &mut [u16] = &mut space;
     let end = least(w, list.len());
-    call(c, &mut list[0..end]);
+    call(rt, c, &mut list[0..end])
 }

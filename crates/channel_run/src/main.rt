@@ -24,12 +24,12 @@ mod lines;
 ghost use Rattle.std.specs.Prelude.{◌≡◌, length};
 
 use coming::coming;
-use libc::STDIN_FILENO;
 use lines::{owned_lines, table_lines};
 use local_channel::LocalChannel;
 use rehearsing::blank;
 use rules::Counters;
 use runs_cases::{Group, counts, group_at, line_end, number, number8, number16, which};
+use runs_files::read_full;
 use runs_records::{
     answer_line, counters_at, counters_of, entries_of, start_line, station_of, writing,
 };
@@ -37,6 +37,7 @@ use runs_tables::{
     begun, calendared, least, slotted, with_count, with_minislot, with_station, written,
 };
 use runs_text::text;
+use std::io;
 
 // The table that the next call is made on, the one that was kept, and what lines before a call gave it: the counters of records, the
 // indexes of a start, the picks of a slot.
@@ -71,53 +72,53 @@ fn indexes_of(g: Group) -> [u16; 65]
 }
 
 // The third number is how many of the indexes are lent.
-fn start(c: LocalChannel, head: Group, given: Group) -> LocalChannel {
+fn start(rt: &impl Print, c: LocalChannel, head: Group, given: Group) -> io::Result<LocalChannel> {
     let indexes = indexes_of(given);
     let end = least(number(head, 3) as usize, 65);
     let r = begun(c, number8(head, 1), number8(head, 2), &indexes[0..end]);
     let answer = r.answer;
-    start_line(answer);
-    r.channel
+    start_line(rt, answer)?;
+    Ok(r.channel)
 }
 
 // A call that writes a message record, by its number: 1 an offer, 2 a hold, 3 a commit, 4 a withdrawal.
-fn write(c: LocalChannel, call: u64, head: Group) -> LocalChannel {
+fn write(rt: &impl Print, c: LocalChannel, call: u64, head: Group) -> io::Result<LocalChannel> {
     let r = written(c, number16(head, 1), writing(call, number(head, 2)));
     let answer = r.answer;
-    answer_line(answer);
-    r.channel
+    answer_line(rt, answer)?;
+    Ok(r.channel)
 }
 
 // The number is how many of the picks are lent.
-fn slot(c: LocalChannel, head: Group, given: Group) -> LocalChannel {
+fn slot(rt: &impl Print, c: LocalChannel, head: Group, given: Group) -> io::Result<LocalChannel> {
     let picks = counts(given, 1, 1);
     let end = least(number(head, 1) as usize, 24);
     let r = slotted(c, &picks[0..end]);
     let answer = r.answer;
-    answer_line(answer);
-    r.channel
+    answer_line(rt, answer)?;
+    Ok(r.channel)
 }
 
-fn calendar(c: LocalChannel, head: Group) -> LocalChannel {
+fn calendar(rt: &impl Print, c: LocalChannel, head: Group) -> io::Result<LocalChannel> {
     let r = calendared(c, entries_of(head));
     let answer = r.answer;
-    answer_line(answer);
-    r.channel
+    answer_line(rt, answer)?;
+    Ok(r.channel)
 }
 
 // The table after a call: 1 a start, 2 an offer, 3 a slot, 4 a calendar, 5 a hold, 6 a commit, 7 a withdrawal.
-fn called(s: State, call: u64, head: Group) -> LocalChannel {
+fn called(rt: &impl Print, s: State, call: u64, head: Group) -> io::Result<LocalChannel> {
     let c = s.last;
     let indexes = s.indexes;
     let picks = s.picks;
     match call {
-        1 => start(c, head, indexes),
-        2 => write(c, 1, head),
-        3 => slot(c, head, picks),
-        4 => calendar(c, head),
-        5 => write(c, 2, head),
-        6 => write(c, 3, head),
-        _ => write(c, 4, head),
+        1 => start(rt, c, head, indexes),
+        2 => write(rt, c, 1, head),
+        3 => slot(rt, c, head, picks),
+        4 => calendar(rt, c, head),
+        5 => write(rt, c, 2, head),
+        6 => write(rt, c, 3, head),
+        _ => write(rt, c, 4, head),
     }
 }
 
@@ -161,37 +162,37 @@ fn altered(
 }
 
 // What is left after a line from 10 on: the table kept, the one that was kept, the table written, or its calendars.
-fn after(s: State, word: u64) -> State {
+fn after(rt: &impl Print, s: State, word: u64) -> io::Result<State> {
     let mut s = s;
     let last = s.last;
     let kept = s.kept;
     match word {
         10 => s.kept = last,
         11 => s.last = kept,
-        12 => table_lines(last),
-        _ => owned_lines(last),
+        12 => table_lines(rt, last)?,
+        _ => owned_lines(rt, last)?,
     }
-    s
+    Ok(s)
 }
 
 // A call: its line, the answer and the table after, or, of the eighth, the list.
-fn call(s: State, line: &[u8], kind: u64, head: Group) -> State {
+fn call(rt: &impl Print, s: State, line: &[u8], kind: u64, head: Group) -> io::Result<State> {
     let mut s = s;
-    text(line);
-    text(b"\n");
+    text(rt, line)?;
+    text(rt, b"\n")?;
     if kind == 8 {
         let last = s.last;
-        coming(last, number(head, 1) as usize);
-        return s;
+        coming(rt, last, number(head, 1) as usize)?;
+        return Ok(s);
     }
-    let c = called(s, kind, head);
-    table_lines(c);
+    let c = called(rt, s, kind, head)?;
+    table_lines(rt, c)?;
     s.last = c;
-    s
+    Ok(s)
 }
 
 // One line.
-fn case(s: State, line: &[u8]) -> State {
+fn case(rt: &impl Print, s: State, line: &[u8]) -> io::Result<State> {
     let mut s = s;
     let head = group_at(line, 0);
     let kind = which(
@@ -200,7 +201,7 @@ fn case(s: State, line: &[u8]) -> State {
         b"start offer slot calendar hold commit withdraw coming ",
     );
     if kind != 0 {
-        return call(s, line, kind, head);
+        return call(rt, s, line, kind, head);
     }
     let word = which(
         line,
@@ -208,37 +209,39 @@ fn case(s: State, line: &[u8]) -> State {
         b"counters position from indexes picks blank count station minislot keep again table show ",
     );
     if word == 0 {
-        return s;
+        return Ok(s);
     }
     if word < 6 {
-        return given(s, word, line, head);
+        return Ok(given(s, word, line, head));
     }
     if word < 10 {
         let last = s.last;
         let counters = s.counters;
         s.last = altered(last, counters, word, line, head);
-        return s;
+        return Ok(s);
     }
-    after(s, word)
+    after(rt, s, word)
 }
 
-fn cases(bytes: &[u8], s: State) {
+fn cases(rt: &impl Print, bytes: &[u8], s: State) -> io::Result<()> {
     let mut s = s;
     let mut at: usize = 0;
     while at < bytes.len() {
         let end = line_end(bytes, at);
-        s = case(s, &bytes[at..end]);
+        s = case(rt, s, &bytes[at..end])?;
         at = end + 1;
     }
+    Ok(())
 }
 
-fn main() {
-    let mut space = io::large_buffer();
-    let n = io::read_full(STDIN_FILENO, &mut space);
+fn main(rt: HostRuntime) -> io::Result<()> {
+    let mut space = [0u8; 65536];
+    let n = read_full(&mut rt.reader(), &mut space)?;
     let none = group_at(b"", 0);
     let counters = counters_of(none);
     let c = blank(0);
     cases(
+        &rt,
         &space[..n],
         State {
             last: c,
@@ -247,5 +250,5 @@ fn main() {
             indexes: none,
             picks: none,
         },
-    );
+    )
 }

@@ -5,70 +5,67 @@
 
 use follow_header::put_header;
 use following::begin;
-use libc::STDIN_FILENO;
-use pipes::{flush, serve};
+use pipes::{Failure, flush, open_named, serve, status, too_long};
 use rounds::follow_round;
 use standing::begin_run;
+use std::env::{Env, FillError};
+use std::io::{self, Read, Write};
+use std::process::ExitCode;
+use std::rt::Files;
 use stream::follow_buffered;
 
-// Follows all that the descriptor gives. A proved loop has to end, and nothing says that the input does: so the loop counts its rounds
-// down, from a number that no run uses up.
-fn follow_input(fd: i32, name: &[u8]) {
-    let mut input_space = io::large_buffer();
-    let mut out_space = io::large_buffer();
+// Follows all that the reader gives. A proved loop has to end, and nothing says that the input does: so the loop counts its rounds, up to
+// a number that no run comes to.
+fn follow_input(reader: &mut impl Read, writer: &mut impl Write) -> Result<(), Failure> {
+    let mut input_space = [0u8; 65536];
+    let mut out_space = [0u8; 65536];
     let input: &mut [u8] = &mut input_space;
     let out: &mut [u8] = &mut out_space;
     let mut f = begin();
     let mut s = begin_run(put_header(out, 0));
-    let mut rounds = u64::MAX;
-    while 0 < rounds {
+    for _ in 0..u64::MAX {
         let followed = follow_round(f, s, input, out);
         f = followed.follower;
-        let served = serve(fd, name, followed.run, input, out);
+        let served = serve(reader, writer, followed.run, input, out)?;
         s = served.run;
-        if served.live {
-            rounds -= 1;
-        } else {
-            return;
+        if !served.live {
+            return Ok(());
         }
     }
+    Ok(())
 }
 
 // Follows the recording of the paper's example.
-fn follow_example() {
-    let mut space = io::buffer();
+fn follow_example(writer: &mut impl Write) -> Result<(), Failure> {
+    let mut space = [0u8; 4096];
     let out: &mut [u8] = &mut space;
     let at = put_header(out, 0);
     let recording = b"2,1\r\n0,0,0,0\r\n63,1,95,3\r\n127,3,0,0\r\n111,1,119,2\r\n0,0,0,0\r\n";
     let n = follow_buffered(begin(), recording, 0, true, out, at);
-    flush(out, n.at);
+    flush(writer, out, n.at)
 }
 
-fn follow_named(name: &[u8]) {
-    if check::same(name, b"example") {
-        follow_example();
-        return;
+fn follow_named(rt: &(impl Files + Print), name: &[u8]) -> Result<(), Failure> {
+    let mut writer = io::writer(rt);
+    if name == b"example".as_slice() {
+        return follow_example(&mut writer);
     }
-    let fd = os::open_read(name);
-    if fd < 0 {
-        os::fail(name);
-        return;
-    }
-    follow_input(fd, name);
-    libc::close(fd);
+    let mut file = open_named(rt, name)?;
+    follow_input(&mut file, &mut writer)
 }
 
-fn main() {
-    let mut name = io::buffer();
-    let length = os::arg(1, &mut name);
-    let error = os::errno();
-    if error == libc::EINVAL {
-        follow_input(STDIN_FILENO, b"standard input");
-        return;
+fn main(rt: HostRuntime) -> ExitCode {
+    let errors = rt.stderr();
+    let mut space = [0u8; 4096];
+    match rt.arg(1, &mut space) {
+        Ok(length) => {
+            let name = &space[..length];
+            status(&errors, name, follow_named(&rt, name))
+        }
+        Err(FillError::NotPresent) => {
+            let done = follow_input(&mut rt.reader(), &mut io::writer(&rt));
+            status(&errors, b"standard input", done)
+        }
+        Err(FillError::TooLong) => status(&errors, b"argument", Err(too_long())),
     }
-    if error != 0 {
-        os::fail(b"argument");
-        return;
-    }
-    follow_named(&name[..length]);
 }

@@ -7,48 +7,50 @@
 use buffers::count_first;
 use follow_header::put_header;
 use following::begin;
-use libc::STDIN_FILENO;
 use runs_cases::line_end;
-use runs_files::read_named;
+use runs_files::{read_full, read_named};
 use runs_text::text;
+use std::io;
+use std::rt::Files;
 use stream::follow_buffered;
 
 // Writes the bytes before place at.
-fn print(out: &[u8], at: usize) {
+fn print(rt: &impl Print, out: &[u8], at: usize) -> io::Result<()> {
     let n = count_first(at, out);
-    text(&out[..n]);
+    text(rt, &out[..n])
 }
 
 // What is printed for the bytes of a whole recording.
-fn print_followed(bytes: &[u8]) {
-    let mut space = io::large_buffer();
+fn print_followed(rt: &impl Print, bytes: &[u8]) -> io::Result<()> {
+    let mut space = [0u8; 65536];
     let out: &mut [u8] = &mut space;
     let at = put_header(out, 0);
     let n = follow_buffered(begin(), bytes, 0, true, out, at);
-    print(out, n.at);
+    print(rt, out, n.at)
 }
 
 // One recording, by the name of its file.
-fn run(name: &[u8]) {
-    text(name);
-    text(b"\n");
-    let mut space = io::large_buffer();
-    let n = read_named(name, &mut space);
-    print_followed(&space[..n]);
-    text(b"\n");
+fn run(rt: &(impl Files + Print), name: &[u8]) -> io::Result<()> {
+    text(rt, name)?;
+    text(rt, b"\n")?;
+    let mut space = [0u8; 65536];
+    let n = read_named(rt, name, &mut space)?;
+    print_followed(rt, &space[..n])?;
+    text(rt, b"\n")
 }
 
-fn runs(names: &[u8]) {
+fn runs(rt: &(impl Files + Print), names: &[u8]) -> io::Result<()> {
     let mut at: usize = 0;
     while at < names.len() {
         let end = line_end(names, at);
-        run(&names[at..end]);
+        run(rt, &names[at..end])?;
         at = end + 1;
     }
+    Ok(())
 }
 
-fn main() {
-    let mut space = io::large_buffer();
-    let n = io::read_full(STDIN_FILENO, &mut space);
-    runs(&space[..n]);
+fn main(rt: HostRuntime) -> io::Result<()> {
+    let mut space = [0u8; 65536];
+    let n = read_full(&mut rt.reader(), &mut space)?;
+    runs(&rt, &space[..n])
 }

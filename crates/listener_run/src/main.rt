@@ -20,12 +20,13 @@ mod recording;
 ghost use Rattle.std.specs.Prelude.{◌≡◌};
 ghost use Rattle.rules.specs.Listening.{listening_of};
 
-use libc::STDIN_FILENO;
 use recording::recordings;
 use rules::{CalendarAnswer, Counters, ListenAnswer, Listened, StartAnswer, Turn};
 use runs_cases::{Group, count, counts, group_at, line_end, number, number8, which, whole, words};
+use runs_files::read_full;
 use runs_records::{counters_at, counters_numbers, counters_of, entries_of, owned_text, turn_text};
 use runs_text::{form, text};
+use std::io;
 
 // What the calls are made on: a record, whether its calendar is written, and a row or a recording.
 #[derive(Clone, Copy)]
@@ -38,60 +39,62 @@ struct Given {
 
 // ---- records and answers as text
 
-fn record_text(c: Counters, shown: bool) {
+fn record_text(rt: &impl Print, c: Counters, shown: bool) -> io::Result<()> {
     let numbers = counters_numbers(c);
     form(
+        rt,
         b" m,# n,# next,# H,# N,# RQ,#,#,#,#,#,#,#,# Open,#,#,#,#,#,#,#,#",
         &numbers[0..21],
-    );
+    )?;
     if shown {
-        text(b" ");
-        owned_text(c);
+        text(rt, b" ")?;
+        owned_text(rt, c)?;
     }
+    Ok(())
 }
 
-fn letter_text(turn: Turn) {
-    text(b" ");
-    turn_text(b"u l r o w ", turn);
+fn letter_text(rt: &impl Print, turn: Turn) -> io::Result<()> {
+    text(rt, b" ")?;
+    turn_text(rt, b"u l r o w ", turn)
 }
 
-fn refusal_text(number: u8) {
+fn refusal_text(rt: &impl Print, number: u8) -> io::Result<()> {
     let numbers = [number as u64];
-    form(b" refused,#", &numbers);
+    form(rt, b" refused,#", &numbers)
 }
 
-pub(crate) fn heard_text(heard: Listened, shown: bool) {
+pub(crate) fn heard_text(rt: &impl Print, heard: Listened, shown: bool) -> io::Result<()> {
     let answer = heard.answer;
     match answer {
-        ListenAnswer::Went(turn) => letter_text(turn),
-        ListenAnswer::Refused(number) => refusal_text(number),
+        ListenAnswer::Went(turn) => letter_text(rt, turn)?,
+        ListenAnswer::Refused(number) => refusal_text(rt, number)?,
     }
     let c = heard.counters;
-    record_text(c, shown);
+    record_text(rt, c, shown)
 }
 
 // ---- the calls
 
-fn start_text(m: u8, n: u8) {
+fn start_text(rt: &impl Print, m: u8, n: u8) -> io::Result<()> {
     let started = listener::start(m, n);
     let answer = started.answer;
     match answer {
-        StartAnswer::Ready => text(b" ready"),
-        StartAnswer::Refused(number) => refusal_text(number),
+        StartAnswer::Ready => text(rt, b" ready")?,
+        StartAnswer::Refused(number) => refusal_text(rt, number)?,
     }
     let c = started.counters;
-    record_text(c, false);
+    record_text(rt, c, false)
 }
 
-fn calendar_text(c: Counters, entries: [u16; 24]) {
+fn calendar_text(rt: &impl Print, c: Counters, entries: [u16; 24]) -> io::Result<()> {
     let set = listener::set_calendar(c, entries);
     let answer = set.answer;
     match answer {
-        CalendarAnswer::Set => text(b" set"),
-        CalendarAnswer::Refused(number) => refusal_text(number),
+        CalendarAnswer::Set => text(rt, b" set")?,
+        CalendarAnswer::Refused(number) => refusal_text(rt, number)?,
     }
     let after = set.counters;
-    record_text(after, true);
+    record_text(rt, after, true)
 }
 
 // The lent form: the record is lent for the row, and is handed on as it is found after.
@@ -121,7 +124,7 @@ pub(crate) fn heard_by(
     }
 }
 
-fn call_text(s: Given, way: u64, place: usize) {
+fn call_text(rt: &impl Print, s: Given, way: u64, place: usize) -> io::Result<()> {
     let c = s.counters;
     let shown = s.shown;
     let w = s.words;
@@ -131,19 +134,19 @@ fn call_text(s: Given, way: u64, place: usize) {
     let many = count(w);
     let end = count(k);
     let heard = heard_by(way, c, &words[0..many], &counts[0..end], place);
-    heard_text(heard, shown);
+    heard_text(rt, heard, shown)
 }
 
 // ---- the cases
 
 // What is given after a line that is written, with its answer behind it: 1 to 3 a call, 4 a start, 5 a calendar set, 6 a record, 7 its
 // position and calendar, 8 a row.
-fn answered(s: Given, kind: u64, line: &[u8], head: Group) -> Given {
+fn answered(rt: &impl Print, s: Given, kind: u64, line: &[u8], head: Group) -> io::Result<Given> {
     let mut s = s;
     let c = s.counters;
     match kind {
-        4 => start_text(number8(head, 1), number8(head, 2)),
-        5 => calendar_text(c, entries_of(head)),
+        4 => start_text(rt, number8(head, 1), number8(head, 2))?,
+        5 => calendar_text(rt, c, entries_of(head))?,
         6 => {
             s.counters = counters_of(whole(line));
             s.shown = false;
@@ -157,21 +160,21 @@ fn answered(s: Given, kind: u64, line: &[u8], head: Group) -> Given {
             s.words = words;
             s.counts = group_at(line, words.next);
         }
-        _ => call_text(s, kind, number(head, 1) as usize),
+        _ => call_text(rt, s, kind, number(head, 1) as usize)?,
     }
-    s
+    Ok(s)
 }
 
 // A line `recording`: with the calendar that is given.
-fn recorded(s: Given, head: Group) {
+fn recorded(rt: &impl Print, s: Given, head: Group) -> io::Result<()> {
     let c = s.counters;
     let entries = c.calendar;
     let p = number(head, 1) as usize;
-    recordings(p, number8(head, 2), number8(head, 3), entries, s.shown);
+    recordings(rt, p, number8(head, 2), number8(head, 3), entries, s.shown)
 }
 
 // One line.
-fn case(s: Given, line: &[u8]) -> Given {
+fn case(rt: &impl Print, s: Given, line: &[u8]) -> io::Result<Given> {
     let head = group_at(line, 0);
     let kind = which(
         line,
@@ -179,34 +182,36 @@ fn case(s: Given, line: &[u8]) -> Given {
         b"value place lent start calendar before position row recording ",
     );
     if kind == 0 {
-        return s;
+        return Ok(s);
     }
     if kind == 9 {
-        recorded(s, head);
-        return s;
+        recorded(rt, s, head)?;
+        return Ok(s);
     }
-    text(line);
-    let after = answered(s, kind, line, head);
-    text(b"\n");
-    after
+    text(rt, line)?;
+    let after = answered(rt, s, kind, line, head)?;
+    text(rt, b"\n")?;
+    Ok(after)
 }
 
-fn cases(bytes: &[u8], s: Given) {
+fn cases(rt: &impl Print, bytes: &[u8], s: Given) -> io::Result<()> {
     let mut s = s;
     let mut at: usize = 0;
     while at < bytes.len() {
         let end = line_end(bytes, at);
-        s = case(s, &bytes[at..end]);
+        s = case(rt, s, &bytes[at..end])?;
         at = end + 1;
     }
+    Ok(())
 }
 
-fn main() {
-    let mut space = io::large_buffer();
-    let n = io::read_full(STDIN_FILENO, &mut space);
+fn main(rt: HostRuntime) -> io::Result<()> {
+    let mut space = [0u8; 65536];
+    let n = read_full(&mut rt.reader(), &mut space)?;
     let none = group_at(b"", 0);
     let counters = counters_of(none);
     cases(
+        &rt,
         &space[..n],
         Given {
             counters,
@@ -214,5 +219,5 @@ fn main() {
             words: none,
             counts: none,
         },
-    );
+    )
 }

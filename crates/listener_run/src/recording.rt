@@ -5,6 +5,7 @@ use crate::{heard_by, heard_text};
 use minislot::Minislot;
 use rules::{Counters, Listened};
 use runs_text::{text, word};
+use std::io;
 
 // 480 minislots, one after the other.
 #[derive(Clone, Copy)]
@@ -32,7 +33,16 @@ fn started(m: u8, n: u8, entries: [u16; 24]) -> Counters {
 }
 
 // 40 rows of m minislots, one after the other, from a place of the recording, on a record that has a start's counters and m minislots.
-fn rows(way: u64, start: Counters, m: u8, shown: bool, words: &[u16], counts: &[u8], first: usize)
+fn rows(
+    rt: &impl Print,
+    way: u64,
+    start: Counters,
+    m: u8,
+    shown: bool,
+    words: &[u16],
+    counts: &[u8],
+    first: usize,
+) -> io::Result<()>
     requires { (length words.now ≡ 480) × ((length counts.now ≡ 480) × ((m ≤ 8) × (first ≤ 160))) }
 {
     let mut c = start;
@@ -42,13 +52,14 @@ fn rows(way: u64, start: Counters, m: u8, shown: bool, words: &[u16], counts: &[
     while i < 40 {
         let end = at + width;
         let heard = row(way, c, words, counts, at, end);
-        word(b"value place lent ", way);
-        heard_text(heard, shown);
-        text(b"\n");
+        word(rt, b"value place lent ", way)?;
+        heard_text(rt, heard, shown)?;
+        text(rt, b"\n")?;
         c = heard.counters;
         at = end;
         i += 1;
     }
+    Ok(())
 }
 
 // The rule of the recordings: each minislot has a number, and the next one has this.
@@ -107,13 +118,20 @@ fn made(p: usize) -> Tape
 }
 
 // A recording in n groups of m minislots, under a calendar: its rows in each way, from other places of it.
-pub(crate) fn recordings(p: usize, n: u8, m: u8, entries: [u16; 24], shown: bool) {
+pub(crate) fn recordings(
+    rt: &impl Print,
+    p: usize,
+    n: u8,
+    m: u8,
+    entries: [u16; 24],
+    shown: bool,
+) -> io::Result<()> {
     let tape = made(p);
     let words = tape.words;
     let counts = tape.counts;
     let width = m % 9;
     let start = started(width, n, entries);
-    rows(1, start, width, shown, &words, &counts, 0);
-    rows(2, start, width, shown, &words, &counts, 7);
-    rows(3, start, width, shown, &words, &counts, 160);
+    rows(rt, 1, start, width, shown, &words, &counts, 0)?;
+    rows(rt, 2, start, width, shown, &words, &counts, 7)?;
+    rows(rt, 3, start, width, shown, &words, &counts, 160)
 }

@@ -8,6 +8,7 @@
 ghost use Rattle.std.specs.Prelude.{◌≡◌, ◌≤◌, length};
 
 use runs_text::form;
+use std::io;
 
 // How many ones a number has: the sum of its digits, which halving brings out one by one.
 fn ones(number: u16) -> u16 {
@@ -81,12 +82,12 @@ fn compared(words: &[u16], table: &[u16; 924]) -> [u64; 4]
 }
 
 // The patterns.
-fn patterns(words: &[u16], table: &[u16; 924])
+fn patterns(rt: &impl Print, words: &[u16], table: &[u16; 924]) -> io::Result<()>
     requires { length words.now ≤ 4096 }
 {
     let n = words.len();
     if n == 0 {
-        return;
+        return Ok(());
     }
     let right = compared(words, table);
     let tried = n as u64;
@@ -96,10 +97,11 @@ fn patterns(words: &[u16], table: &[u16; 924])
         tried, right[0], tried, right[1], tried, right[2], first, last, right[3],
     ];
     form(
+        rt,
         b"rebuilt # words, # equal to the table\n# indexes, # with word_of equal\n# words, # with index_of equal\n\
 first word #, last word #\nsum of the words #\n",
         &numbers,
-    );
+    )
 }
 
 // ---- the words and indexes that are no pattern's
@@ -141,7 +143,7 @@ fn indexes_without_word() -> u64 {
     count
 }
 
-fn no_patterns() {
+fn no_patterns(rt: &impl Print) -> io::Result<()> {
     let low = others(0, 4096);
     let high = others(4096, 65536);
     let numbers = [
@@ -153,16 +155,17 @@ fn no_patterns() {
         indexes_without_word(),
     ];
     form(
+        rt,
         b"# other words below 4096, # with index_of 924\n# words from 4096 to 65535, # with index_of 924\n\
 # indexes from 924 to 65535, # with word_of 0\n",
         &numbers,
-    );
+    )
 }
 
-fn main() {
+fn main(rt: HostRuntime) -> io::Result<()> {
     let mut space = [0u16; 4096];
     let found = rebuild(&mut space);
     let table = pattern::words();
-    patterns(&space[..found], &table);
-    no_patterns();
+    patterns(&rt, &space[..found], &table)?;
+    no_patterns(&rt)
 }

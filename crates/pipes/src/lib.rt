@@ -3,8 +3,11 @@
 #![tactic(auto)]
 
 use buffers::count_first;
-use libc::STDOUT_FILENO;
 use standing::{Run, Wants, after_read, after_write, read_end};
+use std::fs;
+use std::io::{self, ErrorKind, Read, Write};
+use std::process::ExitCode;
+use std::rt::Files;
 
 // A run after what it needed was done, and whether it goes on.
 #[derive(Clone, Copy)]
@@ -13,55 +16,115 @@ pub struct Served {
     pub live: bool,
 }
 
-// Writes the bytes before place at, and answers whether all were taken.
-pub fn flush(out: &[u8], at: usize) -> bool {
+// What failed: the input could not be opened or read, or the output not be written.
+#[derive(Clone, Copy)]
+pub enum Failure {
+    Input(io::Error),
+    Output(io::Error),
+}
+
+// Writes the bytes before place at.
+pub fn flush(writer: &mut impl Write, out: &[u8], at: usize) -> Result<(), Failure> {
     let n = count_first(at, out);
-    let is_written = io::write_all(STDOUT_FILENO, &out[..n]);
-    if !is_written {
-        os::fail(b"standard output");
+    match writer.write_all(&out[..n]) {
+        Ok(()) => Ok(()),
+        Err(error) => Err(Failure::Output(error)),
     }
-    is_written
 }
 
 // Reads on, behind the bytes that are kept. Where that fails, what the output buffer holds is written before it is told.
-fn read_on(fd: i32, name: &[u8], s: Run, input: &mut [u8], out: &[u8]) -> Served {
+fn read_on(
+    reader: &mut impl Read,
+    writer: &mut impl Write,
+    s: Run,
+    input: &mut [u8],
+    out: &[u8],
+) -> Result<Served, Failure> {
     let kept = count_first(s.filled, input);
     let end = read_end(kept, input);
-    let got = libc::read(fd, &mut input[kept..end]);
-    if got < 0 {
-        if flush(out, s.at) {
-            os::fail(name);
+    match reader.read(&mut input[kept..end]) {
+        Ok(more) => Ok(Served {
+            run: after_read(s, input, more),
+            live: true,
+        }),
+        Err(error) => {
+            flush(writer, out, s.at)?;
+            Err(Failure::Input(error))
         }
-        return Served {
-            run: s,
-            live: false,
-        };
-    }
-    let more = io::count(got, input);
-    Served {
-        run: after_read(s, input, more),
-        live: true,
     }
 }
 
 // Does what a run needs: reads on, or writes what the output buffer holds.
-pub fn serve(fd: i32, name: &[u8], s: Run, input: &mut [u8], out: &[u8]) -> Served {
+pub fn serve(
+    reader: &mut impl Read,
+    writer: &mut impl Write,
+    s: Run,
+    input: &mut [u8],
+    out: &[u8],
+) -> Result<Served, Failure> {
     let wants = s.wants;
     match wants {
-        Wants::Read => read_on(fd, name, s, input, out),
+        Wants::Read => read_on(reader, writer, s, input, out),
         Wants::Write => {
-            let live = flush(out, s.at);
-            Served {
+            flush(writer, out, s.at)?;
+            Ok(Served {
                 run: after_write(s),
-                live,
-            }
+                live: true,
+            })
         }
         Wants::End => {
-            flush(out, s.at);
-            Served {
+            flush(writer, out, s.at)?;
+            Ok(Served {
                 run: s,
                 live: false,
-            }
+            })
         }
     }
+}
+
+// ---- the input by its name, and the end of a program
+
+// Opens the file of this name for reading. std takes a name that is text.
+pub fn open_named<R: Files>(rt: &R, name: &[u8]) -> Result<R::File, Failure> {
+    let Ok(text) = str::from_utf8(name) else {
+        let kind = ErrorKind::InvalidFilename;
+        return Err(Failure::Input(io::Error::new(kind, "the name is not UTF-8 text")));
+    };
+    match fs::open(rt, text) {
+        Ok(file) => Ok(file),
+        Err(error) => Err(Failure::Input(error)),
+    }
+}
+
+// The system's number of a name that is too long.
+const ENAMETOOLONG: i32 = 36;
+
+// That a name is longer than any file's.
+pub fn too_long() -> Failure {
+    Failure::Input(io::Error::from_raw_os_error(ENAMETOOLONG))
+}
+
+// Tells what failed, by its name and in the system's words.
+fn tell(errors: &impl Print, name: &[u8], error: io::Error) -> io::Result<()> {
+    errors.write_all(name)?;
+    errors.println(format_args!(": {error}"))
+}
+
+// The status that a shell gives a program which the signal of a closed pipe ended.
+const PIPE_CLOSED: u8 = 141;
+
+// The status that a program ends with. What failed is told first, the input by its name. That nobody reads on is not told.
+pub fn status(errors: &impl Print, name: &[u8], done: Result<(), Failure>) -> ExitCode {
+    let told = match done {
+        Ok(()) => return ExitCode::SUCCESS,
+        Err(Failure::Input(error)) => tell(errors, name, error),
+        Err(Failure::Output(error)) => {
+            if error.kind() == ErrorKind::BrokenPipe {
+                return ExitCode::from(PIPE_CLOSED);
+            }
+            tell(errors, b"standard output", error)
+        }
+    };
+    let _ = told;
+    ExitCode::FAILURE
 }

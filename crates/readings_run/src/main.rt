@@ -9,12 +9,13 @@
 
 ghost use Rattle.std.specs.Prelude.{◌≡◌, ◌≤◌, ◌<◌, length};
 
-use libc::STDIN_FILENO;
 use minislot::{Feedback, Reading, RowReading};
 use runs_cases::{
     Group, count, counts, group_at, line_end, number, number8, number16, which, words,
 };
+use runs_files::read_full;
 use runs_text::{form, text, worded};
+use std::io;
 
 // ---- readings as numbers: 1 Empty; 2 Single, its index and count; 3 Collide; 4 refused and the refusal's number
 
@@ -44,9 +45,14 @@ fn written(kind: u64) -> usize
     }
 }
 
-fn reading_text(numbers: [u64; 3]) {
+fn reading_text(rt: &impl Print, numbers: [u64; 3]) -> io::Result<()> {
     let end = written(numbers[0]);
-    worded(b" @", b"empty single collide refused ", &numbers[0..end]);
+    worded(
+        rt,
+        b" @",
+        b"empty single collide refused ",
+        &numbers[0..end],
+    )
 }
 
 // ---- a digest
@@ -87,7 +93,7 @@ fn tallied(before: [u64; 9], reading: [u64; 3]) -> [u64; 9]
 }
 
 // All words from the first up to the end, with one count.
-fn digest_text(first: u32, end: u32, count: u8)
+fn digest_text(rt: &impl Print, first: u32, end: u32, count: u8) -> io::Result<()>
     requires { end ≤ 65536 }
 {
     let mut tally = [0u64; 9];
@@ -98,37 +104,39 @@ fn digest_text(first: u32, end: u32, count: u8)
         word += 1;
     }
     form(
+        rt,
         b" empty,# single,# collide,# refused,1,# refused,2,# refused,3,# refused,4,# indexes,# counts,#",
         &tally,
-    );
+    )
 }
 
 // ---- the calls
 
-fn minislot_case(head: Group) {
+fn minislot_case(rt: &impl Print, head: Group) -> io::Result<()> {
     let reading = minislot::read(number16(head, 1), number8(head, 2));
-    reading_text(reading_numbers(reading));
+    reading_text(rt, reading_numbers(reading))
 }
 
 // Both ends are 65536 at most.
-fn digest_case(head: Group) {
+fn digest_case(rt: &impl Print, head: Group) -> io::Result<()> {
     let first = (number(head, 1) % 65537) as u32;
     let end = (number(head, 2) % 65537) as u32;
-    digest_text(first, end, number8(head, 3));
+    digest_text(rt, first, end, number8(head, 3))
 }
 
 // A row's whole answer: its number, its weight and its eight places.
-fn row_text(row: RowReading) {
+fn row_text(rt: &impl Print, row: RowReading) -> io::Result<()> {
     let numbers = [row.number as u64, row.weight as u64];
-    form(b" number,# weight,#", &numbers);
+    form(rt, b" number,# weight,#", &numbers)?;
     let minislots = row.minislots;
     let mut j: usize = 0;
     while j < 8 {
         let place = minislots[j];
         let feedback = place.feedback;
-        reading_text(feedback_numbers(feedback));
+        reading_text(rt, feedback_numbers(feedback))?;
         j += 1;
     }
+    Ok(())
 }
 
 // A row, or the row of a recording from a start.
@@ -139,45 +147,46 @@ fn row_read(kind: u64, head: Group, words: &[u16], counts: &[u8]) -> RowReading 
     row_at::read_row_at(words, counts, number(head, 1) as usize, number8(head, 2))
 }
 
-fn row_case(kind: u64, line: &[u8], head: Group) {
+fn row_case(rt: &impl Print, kind: u64, line: &[u8], head: Group) -> io::Result<()> {
     let w = group_at(line, head.next);
     let c = group_at(line, w.next);
     let words = words(w, 1, 1);
     let counts = counts(c, 1, 1);
     let n = count(w);
     let k = count(c);
-    row_text(row_read(kind, head, &words[0..n], &counts[0..k]));
+    row_text(rt, row_read(kind, head, &words[0..n], &counts[0..k]))
 }
 
 // ---- the cases
 
 // One line: it is written, and then its answer.
-fn case(line: &[u8]) {
+fn case(rt: &impl Print, line: &[u8]) -> io::Result<()> {
     let head = group_at(line, 0);
     let kind = which(line, 0, b"minislot digest row row_at ");
     if kind == 0 {
-        return;
+        return Ok(());
     }
-    text(line);
+    text(rt, line)?;
     match kind {
-        1 => minislot_case(head),
-        2 => digest_case(head),
-        _ => row_case(kind, line, head),
+        1 => minislot_case(rt, head)?,
+        2 => digest_case(rt, head)?,
+        _ => row_case(rt, kind, line, head)?,
     }
-    text(b"\n");
+    text(rt, b"\n")
 }
 
-fn cases(bytes: &[u8]) {
+fn cases(rt: &impl Print, bytes: &[u8]) -> io::Result<()> {
     let mut at: usize = 0;
     while at < bytes.len() {
         let end = line_end(bytes, at);
-        case(&bytes[at..end]);
+        case(rt, &bytes[at..end])?;
         at = end + 1;
     }
+    Ok(())
 }
 
-fn main() {
-    let mut space = io::large_buffer();
-    let n = io::read_full(STDIN_FILENO, &mut space);
-    cases(&space[..n]);
+fn main(rt: HostRuntime) -> io::Result<()> {
+    let mut space = [0u8; 65536];
+    let n = read_full(&mut rt.reader(), &mut space)?;
+    cases(&rt, &space[..n])
 }

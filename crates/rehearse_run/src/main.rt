@@ -6,18 +6,19 @@
 
 use buffers::count_first;
 use header_line::put_header;
-use libc::STDIN_FILENO;
 use rehearse_rounds::rehearse_round;
 use rehearsing::begin;
 use runs_cases::line_end;
-use runs_files::read_named;
+use runs_files::{read_full, read_named};
 use runs_text::text;
 use standing::{Run, Wants, after_write, begin_run};
+use std::io;
+use std::rt::Files;
 
 // Writes the bytes before place at.
-fn print(out: &[u8], at: usize) {
+fn print(rt: &impl Print, out: &[u8], at: usize) -> io::Result<()> {
     let n = count_first(at, out);
-    text(&out[..n]);
+    text(rt, &out[..n])
 }
 
 // Where a run stands that has a whole list of so many bytes in its input buffer.
@@ -38,12 +39,12 @@ fn goes_on(wants: Wants) -> bool {
 }
 
 // What is printed for the list of a file. A list that fits the buffer has fewer rounds.
-fn print_rehearsed(name: &[u8]) {
-    let mut input_space = io::large_buffer();
-    let mut out_space = io::large_buffer();
+fn print_rehearsed(rt: &(impl Files + Print), name: &[u8]) -> io::Result<()> {
+    let mut input_space = [0u8; 65536];
+    let mut out_space = [0u8; 65536];
     let input: &mut [u8] = &mut input_space;
     let out: &mut [u8] = &mut out_space;
-    let count = read_named(name, input);
+    let count = read_named(rt, name, input)?;
     let mut r = begin();
     let mut s = with_all(begin_run(put_header(out, 0)), count);
     let mut rounds: usize = 65536;
@@ -52,35 +53,37 @@ fn print_rehearsed(name: &[u8]) {
         r = rehearsed.rehearsal;
         let run = rehearsed.run;
         let wants = run.wants;
-        print(out, run.at);
+        print(rt, out, run.at)?;
         s = after_write(run);
         if goes_on(wants) {
             rounds -= 1;
         } else {
-            return;
+            return Ok(());
         }
     }
+    Ok(())
 }
 
 // One list, by the name of its file.
-fn run(name: &[u8]) {
-    text(name);
-    text(b"\n");
-    print_rehearsed(name);
-    text(b"\n");
+fn run(rt: &(impl Files + Print), name: &[u8]) -> io::Result<()> {
+    text(rt, name)?;
+    text(rt, b"\n")?;
+    print_rehearsed(rt, name)?;
+    text(rt, b"\n")
 }
 
-fn runs(names: &[u8]) {
+fn runs(rt: &(impl Files + Print), names: &[u8]) -> io::Result<()> {
     let mut at: usize = 0;
     while at < names.len() {
         let end = line_end(names, at);
-        run(&names[at..end]);
+        run(rt, &names[at..end])?;
         at = end + 1;
     }
+    Ok(())
 }
 
-fn main() {
-    let mut space = io::large_buffer();
-    let n = io::read_full(STDIN_FILENO, &mut space);
-    runs(&space[..n]);
+fn main(rt: HostRuntime) -> io::Result<()> {
+    let mut space = [0u8; 65536];
+    let n = read_full(&mut rt.reader(), &mut space)?;
+    runs(&rt, &space[..n])
 }

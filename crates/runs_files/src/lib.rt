@@ -1,20 +1,42 @@
-// A file of a run's folder, for the programs that check by running.
+// What a run reads: its standard input, and the files of its folder. For the programs that check by running.
 
 #![tactic(auto)]
 
-ghost use Rattle.std.specs.Prelude.{◌≡◌, ◌≤◌, length, take};
+ghost use Rattle.std.specs.Prelude.{◌≡◌, ◌≤◌, length, take, IfOk};
+
+use std::fs;
+use std::io::{self, Read};
+use std::rt::Files;
+
+// Reads until the buffer is full or the input ends, and gives how many bytes came.
+pub fn read_full(reader: &mut impl Read, space: &mut [u8]) -> io::Result<usize>
+    ensures within { IfOk result (λ n. n ≤ length space.new) }
+    ensures taken { IfOk result (λ n. n ≡ length (take n space.new)) }
+{
+    let mut done = 0;
+    while done < space.len() {
+        let n = reader.read(&mut space[done..])?;
+        if n == 0 {
+            break;
+        }
+        done += n;
+    }
+    Ok(done)
+}
+
+// The name as text, as std wants it of a file.
+fn name_text(name: &[u8]) -> io::Result<&str> {
+    match str::from_utf8(name) {
+        Ok(text) => Ok(text),
+        Err(_) => Err(io::Error::from(io::ErrorKind::InvalidFilename)),
+    }
+}
 
 // Reads the file of this name as far as the buffer has room, and gives how many bytes came.
-pub fn read_named(name: &[u8], space: &mut [u8]) -> usize
-    ensures within { result ≤ length space.new }
-    ensures taken { result ≡ length (take result space.new) }
+pub fn read_named(rt: &impl Files, name: &[u8], space: &mut [u8]) -> io::Result<usize>
+    ensures within { IfOk result (λ n. n ≤ length space.new) }
+    ensures taken { IfOk result (λ n. n ≡ length (take n space.new)) }
 {
-    let fd = os::open_read(name);
-    if fd < 0 {
-        os::fail(name);
-        return 0;
-    }
-    let n = io::read_full(fd, space);
-    libc::close(fd);
-    n
+    let mut file = fs::open(rt, name_text(name)?)?;
+    read_full(&mut file, space)
 }

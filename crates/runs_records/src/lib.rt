@@ -20,6 +20,7 @@ use rules::{
 };
 use runs_cases::{Group, group_at, number, number8, number16, which, words};
 use runs_text::{fields, form, text, word, worded};
+use std::io;
 
 // ---- as numbers
 
@@ -109,73 +110,74 @@ pub fn wire_numbers(wire: [WireRow; 8]) -> [u64; 128]
 
 // ---- as lines
 
-pub fn record_line(s: Station) {
+pub fn record_line(rt: &impl Print, s: Station) -> io::Result<()> {
     let all = record_numbers(s);
     worded(
+        rt,
         b"record,#,#,#,#,#,#,#,#,#,#,#,#,#,?,?,?,?,?,?,?,?,#,@,#,#,#,@,#,#,#\n",
         b"free fresh asked resolving urgent long held ",
         &all,
-    );
+    )
 }
 
-pub fn refused_line(number: u8) {
+pub fn refused_line(rt: &impl Print, number: u8) -> io::Result<()> {
     let numbers = [number as u64];
-    form(b"refused,#\n", &numbers);
+    form(rt, b"refused,#\n", &numbers)
 }
 
 // What a call that writes a message record, by its number, answers if it goes through: the slots of the message.
-pub fn total_line(call: u64, total: u8) {
+pub fn total_line(rt: &impl Print, call: u64, total: u8) -> io::Result<()> {
     let numbers = [call, total as u64];
-    worded(b"@,#\n", b"taken held committed withdrawn ", &numbers);
+    worded(rt, b"@,#\n", b"taken held committed withdrawn ", &numbers)
 }
 
 // The answer to a start.
-pub fn start_line(answer: StartAnswer) {
+pub fn start_line(rt: &impl Print, answer: StartAnswer) -> io::Result<()> {
     match answer {
-        StartAnswer::Ready => text(b"ready\n"),
-        StartAnswer::Refused(number) => refused_line(number),
+        StartAnswer::Ready => text(rt, b"ready\n"),
+        StartAnswer::Refused(number) => refused_line(rt, number),
     }
 }
 
 // A turn by the word that a list has for it, the list being of urgent, long, resolve, open and owned; an owned one with its owner.
-pub fn turn_text(words: &[u8], turn: Turn) {
+pub fn turn_text(rt: &impl Print, words: &[u8], turn: Turn) -> io::Result<()> {
     match turn {
         Turn::Owned { owner } => {
             let numbers = [5, owner as u64];
-            worded(b"@,#", words, &numbers);
+            worded(rt, b"@,#", words, &numbers)
         }
-        Turn::Urgent => word(words, 1),
-        Turn::Long => word(words, 2),
-        Turn::Resolve => word(words, 3),
-        Turn::Open => word(words, 4),
+        Turn::Urgent => word(rt, words, 1),
+        Turn::Long => word(rt, words, 2),
+        Turn::Resolve => word(rt, words, 3),
+        Turn::Open => word(rt, words, 4),
     }
 }
 
 // A slot that went through: its turn, and the other numbers of the answer.
-pub fn went_line(turn: Turn, numbers: &[u64]) {
-    text(b"went,");
-    turn_text(b"urgent long resolve open owned ", turn);
-    fields(numbers);
-    text(b"\n");
+pub fn went_line(rt: &impl Print, turn: Turn, numbers: &[u64]) -> io::Result<()> {
+    text(rt, b"went,")?;
+    turn_text(rt, b"urgent long resolve open owned ", turn)?;
+    fields(rt, numbers)?;
+    text(rt, b"\n")
 }
 
 // The answer to a calendar.
-pub fn set_line(answer: CalendarAnswer) {
+pub fn set_line(rt: &impl Print, answer: CalendarAnswer) -> io::Result<()> {
     match answer {
-        CalendarAnswer::Set => text(b"set\n"),
-        CalendarAnswer::Refused(number) => refused_line(number),
+        CalendarAnswer::Set => text(rt, b"set\n"),
+        CalendarAnswer::Refused(number) => refused_line(rt, number),
     }
 }
 
 // The answer to a call on a channel.
-pub fn answer_line(answer: Answer) {
+pub fn answer_line(rt: &impl Print, answer: Answer) -> io::Result<()> {
     match answer {
-        Answer::Refused(number) => refused_line(number),
-        Answer::Taken(total) => total_line(1, total),
-        Answer::OnHold(total) => total_line(2, total),
-        Answer::Committed(total) => total_line(3, total),
-        Answer::Withdrawn(total) => total_line(4, total),
-        Answer::Set => text(b"set\n"),
+        Answer::Refused(number) => refused_line(rt, number),
+        Answer::Taken(total) => total_line(rt, 1, total),
+        Answer::OnHold(total) => total_line(rt, 2, total),
+        Answer::Committed(total) => total_line(rt, 3, total),
+        Answer::Withdrawn(total) => total_line(rt, 4, total),
+        Answer::Set => text(rt, b"set\n"),
         Answer::Went {
             turn,
             senders,
@@ -189,29 +191,31 @@ pub fn answer_line(answer: Answer) {
                 segment as u64,
                 delivered as u64,
             ];
-            went_line(turn, &numbers);
+            went_line(rt, turn, &numbers)
         }
     }
 }
 
 // A position and its owner; nothing if it is free.
-fn owner_text(position: usize, entry: u16) {
-    if entry != FREE {
-        let numbers = [position as u64, entry as u64];
-        form(b",#:#", &numbers);
+fn owner_text(rt: &impl Print, position: usize, entry: u16) -> io::Result<()> {
+    if entry == FREE {
+        return Ok(());
     }
+    let numbers = [position as u64, entry as u64];
+    form(rt, b",#:#", &numbers)
 }
 
 // The position of the coming slot, and each position that has an owner with it.
-pub fn owned_text(c: Counters) {
+pub fn owned_text(rt: &impl Print, c: Counters) -> io::Result<()> {
     let entries = c.calendar;
     let position = [c.position as u64];
-    form(b"position,# owned", &position);
+    form(rt, b"position,# owned", &position)?;
     let mut p: usize = 0;
     while p < 24 {
-        owner_text(p, entries[p]);
+        owner_text(rt, p, entries[p])?;
         p += 1;
     }
+    Ok(())
 }
 
 // ---- out of the lines of cases

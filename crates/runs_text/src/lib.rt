@@ -6,9 +6,9 @@
 
 #![tactic(auto)]
 
-ghost use Rattle.std.specs.Prelude.{◌≤◌};
+ghost use Rattle.std.specs.Prelude.{◌≤◌, IfOk};
 
-use libc::STDOUT_FILENO;
+use std::io;
 
 const SPACE: u8 = 32;
 
@@ -22,16 +22,16 @@ const MARK: u8 = 63;
 
 const WORD: u8 = 64;
 
-pub fn text(bytes: &[u8]) {
-    io::write_all(STDOUT_FILENO, bytes);
+pub fn text(rt: &impl Print, bytes: &[u8]) -> io::Result<()> {
+    rt.write_all(bytes)
 }
 
-fn decimal(n: u64) {
-    io::print_decimal(STDOUT_FILENO, n);
+fn decimal(rt: &impl Print, n: u64) -> io::Result<()> {
+    rt.print(n)
 }
 
 // Word k of a list, from 1; nothing if the list has none there.
-pub fn word(words: &[u8], k: u64) {
+pub fn word(rt: &impl Print, words: &[u8], k: u64) -> io::Result<()> {
     let mut place: u64 = 1;
     let mut at: usize = 0;
     while at < words.len() {
@@ -39,27 +39,28 @@ pub fn word(words: &[u8], k: u64) {
         if b == SPACE {
             place = place % MOST + 1;
         } else if place == k {
-            text(&words[at..at + 1]);
+            text(rt, &words[at..at + 1])?;
         }
         at += 1;
     }
+    Ok(())
 }
 
 // Writes what a byte of a form stands for, and answers how many numbers it took.
-fn put(sign: u8, words: &[u8], n: u64) -> usize
-    ensures { result ≤ 1 }
+fn put(rt: &impl Print, sign: u8, words: &[u8], n: u64) -> io::Result<usize>
+    ensures { IfOk result (λ took. took ≤ 1) }
 {
     match sign {
-        NUMBER => decimal(n),
-        MARK => word(b"no yes ", n % 2 + 1),
-        WORD => word(words, n),
+        NUMBER => decimal(rt, n)?,
+        MARK => word(rt, b"no yes ", n % 2 + 1)?,
+        WORD => word(rt, words, n)?,
         _ => {
             let plain = [sign];
-            text(&plain);
-            return 0;
+            text(rt, &plain)?;
+            return Ok(0);
         }
     }
-    1
+    Ok(1)
 }
 
 fn number_at(numbers: &[u64], k: usize) -> u64 {
@@ -67,32 +68,33 @@ fn number_at(numbers: &[u64], k: usize) -> u64 {
 }
 
 // Numbers from a place on, with a comma in front of each.
-fn fields_from(numbers: &[u64], from: usize) {
+fn fields_from(rt: &impl Print, numbers: &[u64], from: usize) -> io::Result<()> {
     let mut k = from;
     while k < numbers.len() {
-        text(b",");
-        decimal(numbers[k]);
+        text(rt, b",")?;
+        decimal(rt, numbers[k])?;
         k += 1;
     }
+    Ok(())
 }
 
 // Numbers with a comma in front of each.
-pub fn fields(numbers: &[u64]) {
-    fields_from(numbers, 0);
+pub fn fields(rt: &impl Print, numbers: &[u64]) -> io::Result<()> {
+    fields_from(rt, numbers, 0)
 }
 
 // A form with a list of words.
-pub fn worded(pattern: &[u8], words: &[u8], numbers: &[u64]) {
+pub fn worded(rt: &impl Print, pattern: &[u8], words: &[u8], numbers: &[u64]) -> io::Result<()> {
     let mut k: usize = 0;
     let mut at: usize = 0;
     while at < pattern.len() {
-        k += put(pattern[at], words, number_at(numbers, k));
+        k += put(rt, pattern[at], words, number_at(numbers, k))?;
         at += 1;
     }
-    fields_from(numbers, k);
+    fields_from(rt, numbers, k)
 }
 
 // A form with no words.
-pub fn form(pattern: &[u8], numbers: &[u64]) {
-    worded(pattern, b"", numbers);
+pub fn form(rt: &impl Print, pattern: &[u8], numbers: &[u64]) -> io::Result<()> {
+    worded(rt, pattern, b"", numbers)
 }

@@ -9,11 +9,12 @@
 
 ghost use Rattle.std.specs.Prelude.{◌≡◌, ◌≤◌, length};
 
-use libc::STDIN_FILENO;
 use message::SlotTotal;
 use rules::Turn;
 use runs_cases::{Group, group_at, line_end, number, number16, which};
+use runs_files::read_full;
 use runs_text::{fields, text};
+use std::io;
 
 // One byte more than the longest message has.
 const MOST: usize = 12241;
@@ -38,15 +39,15 @@ fn least(a: usize, b: usize) -> usize
     if a < b { a } else { b }
 }
 
-fn two(number: u64, slots: u64) {
+fn two(rt: &impl Print, number: u64, slots: u64) -> io::Result<()> {
     let numbers = [number, slots];
-    fields(&numbers);
+    fields(rt, &numbers)
 }
 
-fn slots_text(total: SlotTotal) {
+fn slots_text(rt: &impl Print, total: SlotTotal) -> io::Result<()> {
     match total {
-        SlotTotal::Slots(slots) => two(0, slots as u64),
-        SlotTotal::Refused(number) => two(number as u64, 0),
+        SlotTotal::Slots(slots) => two(rt, 0, slots as u64),
+        SlotTotal::Refused(number) => two(rt, number as u64, 0),
     }
 }
 
@@ -65,7 +66,7 @@ fn last(part: &[u8]) -> u8 {
 }
 
 // A number that was set, and the part that was handed back with it.
-fn part_text(number: u8, part: &[u8]) {
+fn part_text(rt: &impl Print, number: u8, part: &[u8]) -> io::Result<()> {
     let bytes = part.len();
     let numbers = [
         number as u64,
@@ -73,14 +74,14 @@ fn part_text(number: u8, part: &[u8]) {
         first(part) as u64,
         last(part) as u64,
     ];
-    fields(&numbers);
+    fields(rt, &numbers)
 }
 
 // A number is lent as 255, which no call sets.
-fn segment_text(message: &[u8], j: usize) {
+fn segment_text(rt: &impl Print, message: &[u8], j: usize) -> io::Result<()> {
     let mut number: u8 = 255;
     let part = segments::segment(message, j, &mut number);
-    part_text(number, part);
+    part_text(rt, number, part)
 }
 
 // The turn of a line's kind.
@@ -95,7 +96,7 @@ fn turn_of(kind: u64, owner: u16) -> Turn {
 }
 
 // The segment of two messages, which are parts of the space.
-fn turn_text(space: &[u8], turn: Turn, head: Group)
+fn turn_text(rt: &impl Print, space: &[u8], turn: Turn, head: Group) -> io::Result<()>
     requires { length space.now ≡ 12341 }
 {
     let short = least(number(head, 1) as usize, MOST);
@@ -109,46 +110,47 @@ fn turn_text(space: &[u8], turn: Turn, head: Group)
         j,
         &mut set,
     );
-    part_text(set, part);
+    part_text(rt, set, part)
 }
 
 // One line: it is written, and then its answer. A message alone is the first bytes of the space.
-fn case(line: &[u8], space: &[u8])
+fn case(rt: &impl Print, line: &[u8], space: &[u8]) -> io::Result<()>
     requires { length space.now ≡ 12341 }
 {
     let head = group_at(line, 0);
     let bytes = number(head, 1) as usize;
     let kind = which(line, 0, b"slots segment urgent long resolve open owned ");
     if kind == 0 {
-        return;
+        return Ok(());
     }
-    text(line);
+    text(rt, line)?;
     if kind == 1 {
-        slots_text(message::slots(bytes));
+        slots_text(rt, message::slots(bytes))?;
     } else if kind == 2 {
         let end = least(bytes, MOST);
-        segment_text(&space[0..end], number(head, 2) as usize);
+        segment_text(rt, &space[0..end], number(head, 2) as usize)?;
     } else {
-        turn_text(space, turn_of(kind, number16(head, 4)), head);
+        turn_text(rt, space, turn_of(kind, number16(head, 4)), head)?;
     }
-    text(b"\n");
+    text(rt, b"\n")
 }
 
-fn cases(bytes: &[u8], space: &[u8])
+fn cases(rt: &impl Print, bytes: &[u8], space: &[u8]) -> io::Result<()>
     requires { length space.now ≡ 12341 }
 {
     let mut at: usize = 0;
     while at < bytes.len() {
         let end = line_end(bytes, at);
-        case(&bytes[at..end], space);
+        case(rt, &bytes[at..end], space)?;
         at = end + 1;
     }
+    Ok(())
 }
 
-fn main() {
+fn main(rt: HostRuntime) -> io::Result<()> {
     let mut space = [0u8; 12341];
     fill(&mut space);
-    let mut input = io::large_buffer();
-    let n = io::read_full(STDIN_FILENO, &mut input);
-    cases(&input[..n], &space);
+    let mut input = [0u8; 65536];
+    let n = read_full(&mut rt.reader(), &mut input)?;
+    cases(&rt, &input[..n], &space)
 }
