@@ -26,7 +26,7 @@ use Rattle.rules.specs.Writing.{record_in, with_record, writes, writing_number_a
 use Rattle.rules.specs.Plain.{record_named}
 use Rattle.rules.specs.Calls.{Start}
 use Rattle.channel_rules.specs.ChannelCalls.{Channel, refused, written_at}
-use Rattle.rules.proofs.Views.{Sender, eqb_self}
+use Rattle.rules.proofs.Views.{eqb_self}
 use Rattle.rules.proofs.Shared.{Table, index_of, asked_sender, table_refuse, table_with, table_written, table_write}
 use Rattle.rules.proofs.WireRows.{pair-cong, row-cong}
 use Rattle.rules.proofs.Walking.{IsStation, AreStations, record_is}

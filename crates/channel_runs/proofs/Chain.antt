@@ -6,7 +6,7 @@ use Prim.Native.Nat.{ℕ}
 use Rattle.rules.specs.declared.Answer.{Answer}
 use Rattle.rules.specs.declared.StartAnswer.TheVariants.{Ready}
 use Rattle.rules.specs.Calls.{Call}
-use Rattle.channel_rules.specs.ChannelCalls.{Channel, ChannelResult, ChannelStarted, channel_start_of, channel_call, channel_after, channel_answers}
+use Rattle.channel_rules.specs.ChannelCalls.{Channel, ChannelResult, ChannelStarted, channel_after, channel_answers}
 use Rattle.channel_rules.specs.Demand3.{Demand3After}
 use Rattle.channel_rules.proofs.Theorem.{demand3}
 use Rattle.channel_runs.specs.Runs.{StartMet, Ran, finally}

@@ -1,33 +1,30 @@
 -- What is shown of the run (specs/ComingHolds), and that list and number of the call are those of places and calendar. The quieted channel has the places,
 -- the calendar and the position of the channel; each slot of it leaves a quiet channel, whatever the picks. Assumes nothing.
 use mathlib.Core.Path.{◌≡◌, refl, sym, ap, subst, ◌∙◌}
-use mathlib.Core.Bool.{Bool, true, false, cond}
+use mathlib.Core.Bool.{Bool, true, false}
 use mathlib.Core.List.{List, [], ◌∷◌, map}
-use mathlib.Core.Option.{Option, none, some}
-use mathlib.Core.Logic.{◌≢◌, by_cases}
+use mathlib.Core.Logic.{by_cases}
 use Prim.Native.Nat.{ℕ, zero, suc, ◌+◌, ◌-◌, ◌*◌, ◌≤◌, ◌<◌}
 use native.Mathlib.Omega.{arith}
 use native.Mathlib.Decide.{dec_lt}
 use lib.Dec.{eqb}
 use lib.ListN.{length, replicate, length-map}
-use borrow.Author.Tests.{eq-eqb, ne_eqb, eqb-true, eqb-false}
-use Rattle.listlaws.specs.Lists.{tabulate}
+use borrow.Author.Tests.{eq-eqb, ne_eqb}
 use Rattle.listlaws.proofs.Tabulating.{tabulate-cong}
 use Rattle.rules.specs.declared.Answer.{Answer}
 use Rattle.rules.specs.declared.Answer.TheVariants.{Went}
-use Rattle.rules.specs.declared.Counters.{Counters}
 use Rattle.rules.specs.declared.Station.{Station}
 use Rattle.rules.specs.declared.Turn.{Turn}
-use Rattle.rules.specs.Calendars.{free_entry, owner_of}
-use Rattle.rules.specs.Calls.{Call, Slot}
+use Rattle.rules.specs.Calendars.{free_entry}
+use Rattle.rules.specs.Calls.{Slot}
 use Rattle.channel_rules.specs.Soundness.{table_counters, sound_table}
-use Rattle.channel_rules.specs.ChannelCalls.{Channel, ChannelResult, has_stations, data_sent, outcome_heard, channel_slot_number_of, channel_slot_of, channel_after, channel_answers}
+use Rattle.channel_rules.specs.ChannelCalls.{Channel, ChannelResult, has_stations, data_sent, outcome_heard, channel_slot_of, channel_after, channel_answers}
 use Rattle.rules.proofs.LimitLaws.{calendar-in}
 use Rattle.sound_slots.proofs.ChannelLaws.{limits}
 use Rattle.sound_slots.proofs.OwnedSlotsHold.{owned-slots}
 use Rattle.sound_slots.proofs.Passing.{some-stations, Passed, slot-passed}
-use Rattle.coming_rules.specs.Quiet.{quiet_condition, quiet_counters, quiet_station, quieted}
-use Rattle.coming_rules.specs.Coming.{slots_on, quiet_after, sender_in, coming_senders, places_in, first_from, coming_until}
+use Rattle.coming_rules.specs.Quiet.{quiet_counters, quiet_station, quieted}
+use Rattle.coming_rules.specs.Coming.{slots_on, quiet_after, coming_senders, places_in, first_from, coming_until}
 use Rattle.coming_rules.specs.Planned.{holders_of, first_of, served_at, free_in, planned_at, planned_list, planned_until}
 use Rattle.coming_rules.specs.ComingHolds.{Picks, AllPicks, ComingHolds, ComingHold}
 use Rattle.coming_rules.proofs.Quieted.{Quiet, quieted-quiet}

@@ -2,13 +2,12 @@
 -- others none. So records stay within their limits, each place after is one from before, and the table is sound again. Assumes nothing.
 use mathlib.Core.Path.{◌≡◌, refl, sym, ap, subst, ◌∙◌}
 use mathlib.Core.Bool.{Bool, true, false, ◌&&◌, cond}
-use mathlib.Core.List.{List, [], ◌∷◌, map}
-use Prim.Native.Nat.{ℕ, zero, suc, ◌+◌, ◌-◌, ◌≤◌, ◌<◌}
+use mathlib.Core.List.{List, ◌∷◌, map}
+use Prim.Native.Nat.{ℕ, zero, suc, ◌+◌, ◌-◌, ◌≤◌}
 use native.Mathlib.Omega.{arith}
 use lib.Dec.{eqb, leb, ltb}
 use lib.ListN.{length, get_or, set, replicate, length-set}
-use borrow.Author.Tests.{le-leb, lt-ltb, le-ltb, lt-leb, eq-eqb, ne_eqb, eqb-true, eqb-false}
-use Rattle.listlaws.specs.Every.{every_from}
+use borrow.Author.Tests.{le-leb, le-ltb, ne_eqb, eqb-true, eqb-false}
 use Rattle.rules.specs.declared.Counters.{Counters}
 use Rattle.rules.specs.declared.Station.{Station}
 use Rattle.rules.specs.declared.WireRow.{WireRow}
@@ -19,15 +18,15 @@ use Rattle.rules.specs.declared.Turn.TheVariants.{Owned as OwnedTurn, Urgent as 
 use Rattle.rules.specs.declared.Turn.TheVariants.{Resolve as ResolveTurn, Open as OpenTurn}
 use Rattle.rules.specs.Calendars.{owner_of, position_after}
 use Rattle.rules.specs.Limits.{between, within_limits}
-use Rattle.rules.specs.StationLimits.{resolution_at, condition_within, short_within, long_within}
+use Rattle.rules.specs.StationLimits.{condition_within, short_within, long_within}
 use Rattle.rules.specs.Queueing.{places_of}
 use Rattle.rules.specs.Turns.{turn_of}
 use Rattle.rules.specs.Falling.{urgent_falls, long_falls, following, fallen}
 use Rattle.rules.specs.Serving.{moved}
 use Rattle.channel_rules.specs.Soundness.{table_counters, sound_table}
-use Rattle.channel_rules.specs.SoundMeaning.{at_urgent, covers_long, Sound}
-use Rattle.channel_rules.specs.ChannelCalls.{Channel, blank_wire}
-use Rattle.rules.proofs.LimitLaws.{Within, within-limits, calendar-in, arrays-lengths, between-bounds, RecordsIn}
+use Rattle.channel_rules.specs.SoundMeaning.{at_urgent, covers_long}
+use Rattle.channel_rules.specs.ChannelCalls.{blank_wire}
+use Rattle.rules.proofs.LimitLaws.{Within, calendar-in, arrays-lengths, between-bounds, RecordsIn}
 use Rattle.rules.proofs.SlotStep.{and_both}
 use Rattle.channel_rules.proofs.SoundLists.{long-parts}
 use Rattle.channel_rules.proofs.SoundMeans.{sound-says}

@@ -1,9 +1,9 @@
 -- One slot of a quiet channel, whatever the picks: the row is silent, nobody asks, each message moves by the turn, and what is left is quiet again. It goes
 -- through, and neither its answer nor what it leaves depends on the picks. Assumes nothing.
-use mathlib.Core.Path.{◌≡◌, refl, sym, ap, subst, ◌∙◌}
-use mathlib.Core.Bool.{Bool, true, false, ◌&&◌, cond, and-false}
-use mathlib.Core.List.{List, [], ◌∷◌, ◌++◌, map, foldl}
-use Prim.Native.Nat.{ℕ, zero, suc, ◌+◌, ◌-◌, ◌≤◌, ◌<◌}
+use mathlib.Core.Path.{◌≡◌, refl, ap, ◌∙◌}
+use mathlib.Core.Bool.{Bool, true, false, cond}
+use mathlib.Core.List.{List, [], ◌∷◌, map}
+use Prim.Native.Nat.{ℕ, zero, suc, ◌-◌, ◌≤◌, ◌<◌}
 use native.Mathlib.Omega.{arith}
 use lib.Count.{ones}
 use lib.Dec.{eqb}
@@ -14,8 +14,8 @@ use Rattle.minislot.specs.declared.Feedback.{Feedback}
 use Rattle.minislot.specs.declared.Feedback.TheVariants.{Empty}
 use Rattle.minislot.specs.Reading.{reading_of}
 use Rattle.rows.specs.Row.{readings, feedbacks}
-use Rattle.requests.specs.Together.{carries, silent, together}
-use Rattle.listlaws.specs.Lists.{each, gather_of}
+use Rattle.requests.specs.Together.{silent, together}
+use Rattle.listlaws.specs.Lists.{each}
 use Rattle.rules.specs.declared.Counters.{Counters}
 use Rattle.rules.specs.declared.Places.{Places}
 use Rattle.rules.specs.declared.Outcome.{Outcome}
@@ -34,17 +34,16 @@ use Rattle.rules.specs.Calendars.{owner_of}
 use Rattle.rules.specs.Hearing.{words_of, counts_of}
 use Rattle.rules.specs.Limits.{between}
 use Rattle.rules.specs.Queueing.{places_of, queued_row, immediate_of, places_after, step_one_of}
-use Rattle.rules.specs.RowCounts.{short_singles}
 use Rattle.rules.specs.Turns.{turn_of}
 use Rattle.rules.specs.Falling.{fallen}
-use Rattle.rules.specs.Outcome.{successes, outcome_by, outcome_of}
+use Rattle.rules.specs.Outcome.{successes, outcome_by}
 use Rattle.rules.specs.Requesting.{requests, requested}
 use Rattle.rules.specs.Serving.{urgent_segment, long_segment, sends, moved}
 use Rattle.rules.specs.Stepping.{settled_in, acts_of, acts_beside, is_fresh, step_of}
 use Rattle.rules.specs.StationCalls.{slot_of}
-use Rattle.channel_rules.specs.Soundness.{table_counters, sound_table}
+use Rattle.channel_rules.specs.Soundness.{table_counters}
 use Rattle.channel_rules.specs.SoundMeaning.{station_at}
-use Rattle.channel_rules.specs.ChannelCalls.{Channel, ChannelResult, has_stations, blank_row, blank_wire, heard_row, feedback_heard, slots_of, slots_heard, requests_in, new_row, sent_of, slot_answer, outcome_heard, slot_through, channel_slot_number_of, channel_slot_of}
+use Rattle.channel_rules.specs.ChannelCalls.{Channel, blank_row, blank_wire, heard_row, feedback_heard, slots_of, slots_heard, requests_in, new_row, sent_of, slot_answer, outcome_heard, slot_through, channel_slot_number_of, channel_slot_of}
 use Rattle.rules.proofs.LimitLaws.{Within, within-limits}
 use Rattle.rules.proofs.QueueingLaws.{fits_if}
 use Rattle.rules.proofs.SlotStep.{and_both}
@@ -55,7 +54,7 @@ use Rattle.coming_rules.specs.Quiet.{quiet_condition}
 use Rattle.coming_rules.specs.ComingHolds.{Picks}
 use Rattle.coming_rules.proofs.Redone.{at_same, redone, counters-redone}
 use Rattle.coming_rules.proofs.Quieted.{AllCalm, Quiet, redone-calm}
-use Rattle.coming_rules.proofs.QuietMoves.{shifted, moved-calm, shifted-calm, set_same, empty-after, no_place, after-sound}
+use Rattle.coming_rules.proofs.QuietMoves.{shifted, shifted-calm, set_same, empty-after, after-sound}
 
 -- ---- the row
 

@@ -6,28 +6,26 @@ use mathlib.Core.List.{List, [], ◌∷◌, map}
 use Prim.Native.Nat.{ℕ, zero, suc, ◌+◌, ◌-◌, ◌≤◌, ◌<◌}
 use native.Mathlib.Omega.{arith}
 use lib.Dec.{eqb, leb, ltb}
-use lib.ListN.{length, get_or, set, replicate, length-map}
-use borrow.Author.Tests.{le-leb, lt-ltb, eq-eqb, leb-true}
+use lib.ListN.{length, set, replicate, length-map}
+use borrow.Author.Tests.{le-leb, lt-ltb, eq-eqb}
 use Rattle.listlaws.specs.Every.{every_from}
-use Rattle.listlaws.specs.Lists.{each}
 use Rattle.rules.specs.declared.Counters.{Counters}
 use Rattle.rules.specs.declared.Station.{Station}
-use Rattle.rules.specs.declared.WireRow.{WireRow}
 use Rattle.rules.specs.declared.Condition.{Condition}
 use Rattle.rules.specs.declared.Condition.TheVariants.{Free, Held, Fresh, Asked, Resolving, Urgent, Long}
-use Rattle.rules.specs.Calendars.{calendar_within, entries_within, some_free}
+use Rattle.rules.specs.Calendars.{calendar_within, entries_within}
 use Rattle.rules.specs.Limits.{between, resolution_within, opened_within, groups_within, within_limits}
-use Rattle.rules.specs.StationLimits.{resolution_at, condition_within, short_within, long_within, records_apart}
+use Rattle.rules.specs.StationLimits.{condition_within, short_within, long_within, records_apart}
 use Rattle.channel_rules.specs.Soundness.{table_counters, sound_table}
 use Rattle.channel_rules.specs.SoundMeaning.{at_urgent, covers_long, station_at, Sound}
 use Rattle.channel_rules.specs.ChannelCalls.{Channel, has_stations, blank_wire}
-use Rattle.rules.proofs.LimitLaws.{Within, within-limits, CalendarIn, calendar-in, arrays-lengths, RecordsIn}
+use Rattle.rules.proofs.LimitLaws.{Within, within-limits, calendar-in, arrays-lengths, RecordsIn}
 use Rattle.rules.proofs.SlotStep.{and_both}
 use Rattle.channel_rules.proofs.SoundMeans.{sound-says}
 use Rattle.sound_slots.proofs.ChannelLaws.{first-within}
 use Rattle.sound_slots.proofs.Passing.{some-stations}
 use Rattle.coming_rules.specs.Quiet.{quiet_condition, quiet_counters, quiet_station, quieted}
-use Rattle.coming_rules.proofs.Redone.{at_same, redone, From, redone-sound}
+use Rattle.coming_rules.proofs.Redone.{at_same, redone, redone-sound}
 
 -- ---- limits
 

@@ -1,35 +1,27 @@
 -- The places of H and N together, counted from 0: each of a sound table's has one message, those beyond none; a slot that serves a place moves the others one
 -- down; and whoever sends in it is the station of place 0. Assumes nothing.
-use mathlib.Core.Path.{◌≡◌, refl, sym, ap, subst, ◌∙◌}
-use mathlib.Core.Bool.{Bool, true, false, ◌&&◌, ◌||◌, cond}
+use mathlib.Core.Path.{◌≡◌, refl, sym, ◌∙◌}
+use mathlib.Core.Bool.{Bool, true, false, ◌&&◌, cond}
 use mathlib.Core.List.{List, [], ◌∷◌, ◌++◌, map}
 use mathlib.Core.Logic.{by_cases}
-use Prim.Native.Nat.{ℕ, zero, suc, ◌+◌, ◌-◌, ◌≤◌, ◌<◌}
+use Prim.Native.Nat.{ℕ, suc, ◌+◌, ◌-◌, ◌≤◌, ◌<◌}
 use native.Mathlib.Omega.{arith}
 use native.Mathlib.Decide.{dec_lt}
 use lib.Dec.{eqb, leb, ltb}
-use lib.ListN.{length, length-append}
-use borrow.Author.Tests.{le-leb, lt-ltb, le-ltb, lt-leb, eq-eqb, ne_eqb, eqb-true, eqb-false}
-use Rattle.listlaws.specs.Lists.{only_if, gather_of}
+use lib.ListN.{length}
+use borrow.Author.Tests.{le-leb, le-ltb, lt-leb, ne_eqb, eqb-true, eqb-false}
+use Rattle.listlaws.specs.Lists.{only_if}
 use Rattle.rules.specs.declared.Counters.{Counters}
-use Rattle.rules.specs.declared.Outcome.{Outcome}
 use Rattle.rules.specs.declared.Station.{Station}
-use Rattle.rules.specs.declared.StationSlot.{StationSlot}
-use Rattle.rules.specs.declared.TableMessage.{TableMessage}
 use Rattle.rules.specs.declared.WireRow.{WireRow}
 use Rattle.rules.specs.declared.Condition.{Condition}
 use Rattle.rules.specs.declared.Condition.TheVariants.{Free, Held, Fresh, Asked, Resolving, Urgent, Long}
-use Rattle.rules.specs.declared.Turn.{Turn}
-use Rattle.rules.specs.declared.Turn.TheVariants.{Owned as OwnedTurn, Urgent as UrgentTurn, Long as LongTurn}
-use Rattle.rules.specs.declared.Turn.TheVariants.{Resolve as ResolveTurn, Open as OpenTurn}
-use Rattle.rules.specs.Limits.{between}
-use Rattle.rules.specs.StationLimits.{condition_within, short_within, long_within}
-use Rattle.rules.specs.Serving.{urgent_segment, long_segment, moved}
-use Rattle.channel_rules.specs.Soundness.{table_counters, messages_of, sound_table}
+use Rattle.rules.specs.declared.Turn.TheVariants.{Urgent as UrgentTurn, Long as LongTurn}
+use Rattle.rules.specs.StationLimits.{condition_within}
+use Rattle.rules.specs.Serving.{moved}
+use Rattle.channel_rules.specs.Soundness.{table_counters, sound_table}
 use Rattle.channel_rules.specs.SoundMeaning.{at_urgent, covers_long, how_many, Sound}
-use Rattle.channel_rules.specs.ChannelCalls.{DataSent, speaks, data_in, data_sent}
-use Rattle.rules.proofs.LimitLaws.{between-bounds, RecordsIn}
-use Rattle.rules.proofs.SlotStep.{and_both}
+use Rattle.rules.proofs.LimitLaws.{between-bounds}
 use Rattle.channel_rules.proofs.SoundLists.{AllWithin, long-parts}
 use Rattle.channel_rules.proofs.SoundMeans.{all_in, sound-says}
 use Rattle.coming_rules.specs.Quiet.{quiet_condition}
@@ -37,7 +29,6 @@ use Rattle.coming_rules.specs.Planned.{has_place, holders_of}
 use Rattle.coming_rules.proofs.Comparing.{same-leb, same-ltb, same-eqb, both-same}
 use Rattle.coming_rules.proofs.Redone.{redone}
 use Rattle.coming_rules.proofs.QuietMoves.{shifted}
-use Rattle.coming_rules.proofs.QuietSlots.{segment_by, segments_by, calm_step}
 
 -- ---- the places after a slot
 

@@ -1,49 +1,42 @@
 -- The run of the quieted channel is what places and calendar say: slot by slot, whoever sends is the owner or the station whose place it is, and the places
 -- that are left fall by one in each slot that no stream owns. So the list of senders and the number of slots until both transmission queues are empty are
 -- those of specs/Planned. Assumes nothing.
-use mathlib.Core.Path.{◌≡◌, refl, sym, ap, subst, ◌∙◌}
+use mathlib.Core.Path.{◌≡◌, refl, sym, ap, ◌∙◌}
 use mathlib.Core.Bool.{Bool, true, false, cond}
-use mathlib.Core.List.{List, [], ◌∷◌, map}
-use mathlib.Core.Option.{Option, none, some}
-use mathlib.Core.Logic.{◌≢◌}
-use Prim.Native.Nat.{ℕ, zero, suc, ◌+◌, ◌-◌, ◌*◌, ◌≤◌, ◌<◌}
+use mathlib.Core.List.{List, ◌∷◌, map}
+use mathlib.Core.Option.{none, some}
+use Prim.Native.Nat.{ℕ, zero, suc, ◌+◌, ◌-◌, ◌≤◌}
 use native.Mathlib.Omega.{arith}
 use native.Mathlib.Nat.{zero-add}
 use lib.Dec.{eqb, ltb}
-use lib.ListN.{length, get_or, replicate, length-map}
-use borrow.Author.Tests.{ltb-true, ltb-false, eq-eqb, ne_eqb, eqb-true, eqb-false}
+use lib.ListN.{length, replicate, length-map}
+use borrow.Author.Tests.{ltb-true, ltb-false}
 use Rattle.listlaws.specs.Lists.{tabulate}
 use Rattle.listlaws.proofs.Tabulating.{tabulate-cong}
-use Rattle.rules.specs.declared.Answer.{Answer}
 use Rattle.rules.specs.declared.Counters.{Counters}
-use Rattle.rules.specs.declared.Station.{Station}
 use Rattle.rules.specs.declared.Condition.{Condition}
-use Rattle.rules.specs.declared.Turn.{Turn}
 use Rattle.rules.specs.declared.Turn.TheVariants.{Owned as OwnedTurn, Urgent as UrgentTurn, Long as LongTurn}
-use Rattle.rules.specs.declared.Turn.TheVariants.{Resolve as ResolveTurn, Open as OpenTurn}
-use Rattle.rules.specs.Calendars.{free_entry, owner_in, owner_of, position_after, some_free}
-use Rattle.rules.specs.Calls.{Call, Slot}
-use Rattle.rules.specs.Falling.{urgent_falls, long_falls, fallen}
-use Rattle.rules.specs.StationLimits.{condition_within}
+use Rattle.rules.specs.declared.Turn.TheVariants.{Open as OpenTurn}
+use Rattle.rules.specs.Calendars.{free_entry, owner_of, position_after}
+use Rattle.rules.specs.Calls.{Slot}
+use Rattle.rules.specs.Falling.{urgent_falls, long_falls}
 use Rattle.rules.specs.Serving.{moved}
 use Rattle.rules.specs.Turns.{turn_of}
-use Rattle.channel_rules.specs.Soundness.{table_counters, sound_table}
-use Rattle.channel_rules.specs.ChannelCalls.{Channel, ChannelResult, has_stations, channel_slot_of, channel_after, channel_answers}
-use Rattle.rules.proofs.LimitLaws.{Within, calendar-in}
+use Rattle.channel_rules.specs.Soundness.{table_counters}
+use Rattle.channel_rules.specs.ChannelCalls.{Channel, ChannelResult, channel_after, channel_answers}
 use Rattle.channel_rules.proofs.SoundLists.{AllWithin}
 use Rattle.channel_rules.proofs.SoundMeans.{all_in}
 use Rattle.sound_slots.proofs.Passing.{some-stations}
-use Rattle.coming_rules.specs.Quiet.{quiet_condition, quiet_station, quieted}
-use Rattle.coming_rules.specs.Coming.{slots_on, quiet_after, nobody, sender_in, coming_senders, places_in, first_from, coming_until}
-use Rattle.coming_rules.specs.Planned.{has_place, holders_of, first_of, served_at, entry_in, free_in, planned_at, planned_list, planned_until}
+use Rattle.coming_rules.specs.Coming.{sender_in, places_in}
+use Rattle.coming_rules.specs.Planned.{has_place, holders_of, first_of, served_at, entry_in, free_in, planned_at}
 use Rattle.coming_rules.specs.ComingHolds.{Picks}
 use Rattle.coming_rules.proofs.Redone.{redone, counters-redone}
-use Rattle.coming_rules.proofs.Quieted.{Quiet, stations-quieted, quieted-quiet}
+use Rattle.coming_rules.proofs.Quieted.{Quiet}
 use Rattle.coming_rules.proofs.QuietMoves.{shifted, urgent-is, long-is, calendar-is, minislots-is, position-is}
-use Rattle.coming_rules.proofs.QuietSlots.{turn_here, counters_next, quiet_next, quiet-limits, answer_here, slot_is, quiet_next_lem}
-use Rattle.coming_rules.proofs.Served.{quiet-place, urgent_shift, long_shift, no_place-at, holders_redone, most-one}
-use Rattle.coming_rules.proofs.Sending.{urgent-turn, long-turn, open_turn, sender-served, ones-picks, sender-owner}
-use Rattle.coming_rules.proofs.FreeSlots.{entry_next, free-next, until_serves, until_first, until_most, free-rises}
+use Rattle.coming_rules.proofs.QuietSlots.{turn_here, counters_next, quiet_next, answer_here, slot_is, quiet_next_lem}
+use Rattle.coming_rules.proofs.Served.{quiet-place, urgent_shift, long_shift, no_place-at, holders_redone}
+use Rattle.coming_rules.proofs.Sending.{urgent-turn, long-turn, open_turn, sender-served, sender-owner}
+use Rattle.coming_rules.proofs.FreeSlots.{entry_next, free-next}
 
 -- ---- one slot: what it leaves of counters, picks and places
 

@@ -1,6 +1,6 @@
 -- A row's record (paper: "then 2m fields a row, word and count in turn"; "19: .. a word above 65,535, a count above 255").
 -- How many fields a row must have is asked later: here every field is looked at, however many there are.
-use Rattle.std.specs.Prelude.{Bool, true, false, cond, ◌&&◌, List, [], ◌∷◌, ℕ, zero, suc, leb, length, replicate}
+use Rattle.std.specs.Prelude.{Bool, true, cond, ◌&&◌, List, [], ◌∷◌, ℕ, zero, suc, leb, length, replicate}
 use Rattle.fields.specs.Fields.{well_formed, fields_of}
 use Rattle.row_fields.specs.declared.RowFields.{RowFields}
 

@@ -1,25 +1,24 @@
 -- Every call keeps the relation and answers alike, refused or not; so does every list of calls after a start. Assumes nothing.
 use mathlib.Core.Path.{◌≡◌, refl, sym, ap, ◌∙◌}
 use mathlib.Core.Bool.{Bool, true, false, not, cond, ◌&&◌}
-use mathlib.Core.List.{List, [], ◌∷◌, ◌++◌, append-nil, append_assoc}
-use mathlib.Core.Option.{Option, none, some}
+use mathlib.Core.List.{List, [], ◌∷◌}
 use mathlib.Core.Logic.{◌≢◌}
-use Prim.Native.Nat.{ℕ, zero, suc, ◌+◌, ◌-◌, ◌≤◌, ◌<◌, ◌/◌, ◌%◌}
+use Prim.Native.Nat.{ℕ, zero, suc, ◌≤◌, ◌/◌, ◌%◌}
 use native.Mathlib.Omega.{arith}
 use lib.Dec.{leb, eqb}
-use lib.ListN.{length, get_or, length-append}
+use lib.ListN.{length, get_or}
 use Rattle.rules.proofs.WriteStep.{refused, both, station-below, write_same}
 use Rattle.rules.proofs.SlotStep.{and_both, slot_same, slot-answer, settled_eq, passes_eq, length-asking}
 use Rattle.rules.proofs.Relation.{Agrees, Same, SameResult}
-use Rattle.rules.proofs.Shared.{Table, TableResult, table_start, table_refuse, table_set, table_call, table_settled, table_slot, table_row, table_success}
-use Rattle.rules.proofs.Views.{eqb_self, seen}
+use Rattle.rules.proofs.Shared.{Table, table_start, table_refuse, table_set, table_call, table_settled, table_slot, table_row, table_success}
+use Rattle.rules.proofs.Views.{seen}
 use Rattle.rules.specs.Calls.{Start, Call, Write, Slot, Calendar}
 use Rattle.rules.specs.Messages.{Message, of, short_record, long_record, record_of}
 use Rattle.rules.proofs.Records.{holder, is_long_record}
 use Rattle.rules.specs.Plain.{station_from, in_range, Plain, plain_start, plain_refuse, among, on_channel, plain_set, plain_call, overflows, asking_row, plain_settled, plain_slot}
 use Rattle.rules.specs.Queueing.{passes}
-use Rattle.rules.specs.StationLimits.{Condition, records_apart}
-use borrow.Author.Tests.{leb-true, leb-false, le-leb, eq-eqb, eqb-true, ne_eqb, eqb-false}
+use Rattle.rules.specs.StationLimits.{records_apart}
+use borrow.Author.Tests.{leb-true, eqb-true, eqb-false}
 
 -- picks that pass the test are in range, and so is the pick of nobody, 1
 pub picks_ok : (m : ℕ) → 1 ≤ m → (l : List ℕ) → in_range m l ≡ true → (k : ℕ) → (1 ≤ get_or l k 1) × (get_or l k 1 ≤ m)

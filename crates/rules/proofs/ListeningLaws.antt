@@ -5,7 +5,6 @@ use mathlib.Core.Bool.{Bool, true, false}
 use mathlib.Core.List.{List}
 use mathlib.Core.Logic.{◌≢◌}
 use Prim.Native.Nat.{ℕ}
-use lib.Dec.{eqb}
 use borrow.Author.Tests.{le-leb, ne_eqb}
 use Rattle.minislot.proofs.Readings.{Listed}
 use Rattle.rows.specs.Row.{readings, first_number, feedbacks, has_minislots, row_of}

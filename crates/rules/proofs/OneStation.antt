@@ -2,7 +2,7 @@
 use mathlib.Core.Path.{◌≡◌, refl, sym, ap, ◌∙◌}
 use mathlib.Core.Bool.{Bool, true, false, cond}
 use mathlib.Core.List.{List, [], ◌++◌, map, append_assoc}
-use Prim.Native.Nat.{ℕ, zero, ◌+◌, ◌-◌, ◌≤◌}
+use Prim.Native.Nat.{ℕ, zero, ◌≤◌}
 use lib.ListN.{length}
 use Rattle.rules.proofs.Newcomers.{of_by-append}
 use Rattle.rules.proofs.SettleViews.{settle_ok, settle-asked, settle-fresh, settle-held, settle-asked-far, settle_res_far}

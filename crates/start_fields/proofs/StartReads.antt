@@ -8,11 +8,10 @@ use native.Mathlib.Omega.{arith}
 use borrow.Author.Tests.{eqb-true}
 use lib.Dec.{eqb}
 use lib.ListN.{length, drop}
-use Rattle.fields.specs.Fields.{parts, every, is_field, numeral}
+use Rattle.fields.specs.Fields.{parts, every, numeral}
 use Rattle.fields.specs.Steps.{none, field_of}
 use Rattle.fields.specs.declared.Field.TheVariants as field
 use Rattle.fields.proofs.FieldReads.{Read, none_true, unread, rest-next}
-use Rattle.number_lists.specs.declared.NumberList.{NumberList}
 use Rattle.number_lists.specs.NumberList.{is_number, list_with, list_of}
 use Rattle.number_lists.proofs.ListLaws.{list-few, list_length, list-good}
 use Rattle.call_fields.specs.declared.StartFields.{StartFields}

@@ -24,13 +24,13 @@ loop-i-preserved c =
     let s = get_or a.list l.i no_request in
     elim c.if-a-group.branch [
       | then-a-group w ↦ (
-      omega arith,
-      omega arith,
-      w.row-is
-          ∙ w.place-joined.ensures
-          ∙ ap (λ (x : Minislot). placed s.minislot x l.row) w.carry-carried.ensures
-          ∙ ap (placed s.minislot (sent s)) l.invariant.2
-          ∙ row_more a.group a.list l.i no_request (omega arith) w.if-a-group.true,
+        omega arith,
+        omega arith,
+        w.row-is
+            ∙ w.place-joined.ensures
+            ∙ ap (λ (x : Minislot). placed s.minislot x l.row) w.carry-carried.ensures
+            ∙ ap (placed s.minislot (sent s)) l.invariant.2
+            ∙ row_more a.group a.list l.i no_request (omega arith) w.if-a-group.true,
       )
       | else-a-group w ↦ (omega arith, omega arith, rw w.row-is (l.invariant.2 ∙ row_same a.group a.list l.i no_request (omega arith) w.if-a-group.false))
     ]

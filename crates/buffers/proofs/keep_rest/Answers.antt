@@ -1,7 +1,7 @@
 -- `keep_rest` meets its contract. The loop's invariant: so many bytes were moved as were passed, and no more than there are to move. The measure is what is left up to `to`.
 -- Assumes nothing.
 use mathlib.Core.Path.{refl, ◌∙◌}
-use Prim.Native.Nat.{◌+◌, ◌-◌, ◌<◌, ◌≤◌}
+use Prim.Native.Nat.{◌+◌, ◌<◌, ◌≤◌}
 use native.Mathlib.Omega.{arith}
 use lib.ListN.{length, length-set}
 use Rattle.buffers.proofs.Moves.{moved_more, rest-length, moved_all, all_moved, end_moved}

@@ -33,7 +33,8 @@ loop-i-preserved c = (
   omega arith,
   below_more _ _ c.loop-i.invariant.1 (elim c.if-i-groups.branch [
     | then-i-groups+else-r-gt-RESOLUTION_LIMIT w ↦ resolution-fits c.args.n c.loop-i.i _ (omega arith) w.if-r-gt-RESOLUTION_LIMIT.false
-    | else-i-groups+else-r-ne0 w ↦ resolution-idle c.args.n c.loop-i.i _ (omega arith) w.if-r-ne0.false ]),
+    | else-i-groups+else-r-ne0 w ↦ resolution-idle c.args.n c.loop-i.i _ (omega arith) w.if-r-ne0.false
+  ]),
 )
 
 pub returns : goal.returns

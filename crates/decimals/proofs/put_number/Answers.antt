@@ -22,6 +22,6 @@ returns-then-has_room c =
 
 pub returns : goal.returns
 returns c =
-    let all_told = let a = c.args in
-    put-none _ a.at (digits_of a.value) (rw c.digits-size.ensures.count at (sym c.has_room.ensures ∙ c.if-has_room.false)) in
+    let a = c.args in
+    let all_told = put-none _ a.at (digits_of a.value) (rw c.digits-size.ensures.count at (sym c.has_room.ensures ∙ c.if-has_room.false)) in
     record { buffer = all_told.0; reached = all_told.1 }

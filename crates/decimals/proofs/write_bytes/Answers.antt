@@ -1,7 +1,6 @@
 -- `write_bytes` meets its contract. The loop's invariant: with the bytes to come stored from where it stands, the buffer is what it is to be.
 -- The measure is how many bytes are to come. Assumes nothing.
 use mathlib.Core.Path.{refl, ◌∙◌}
-use Prim.Native.Nat.{◌-◌}
 use native.Mathlib.Omega.{arith}
 use lib.ListN.{length-set, drop_of_length-le}
 use Rattle.decimals.proofs.Stores.{store-next}

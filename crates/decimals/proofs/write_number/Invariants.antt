@@ -1,7 +1,7 @@
 -- `write_number` meets its contract. The loop's invariant: with the digits of what is left stored from `at` on, the buffer is what it is to be;
 -- they end where the loop has come to. The measure is what is left. Assumes nothing.
 use mathlib.Core.Path.{◌≡◌}
-use Prim.Native.Nat.{◌+◌, ◌-◌, ◌≤◌}
+use Prim.Native.Nat.{◌+◌, ◌≤◌}
 use lib.ListN.{length}
 use lib.Seq.{sets}
 use Rattle.decimals.specs.Decimal.{digits_of}

@@ -2,7 +2,6 @@
 -- The measure is how much of the form is to come. Assumes nothing.
 use borrow.Author.Tests.{lt-leb}
 use mathlib.Core.Path.{refl, sym, ap, ◌∙◌}
-use Prim.Native.Nat.{◌-◌}
 use native.Mathlib.Omega.{arith}
 use lib.ListN.{length, drop}
 use Rattle.forms.proofs.FormLaws.{form_end, form-byte, number_size, form_nothing, room-less}

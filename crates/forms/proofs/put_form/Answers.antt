@@ -11,9 +11,9 @@ use Rattle.forms.proofs.put_form.Goals as goal
 
 pub returns-then-room-at : goal.returns-then-room-at
 returns-then-room-at c =
-    let all_told = let a = c.args in
+    let a = c.args in
     let line = form_of a.form.now a.values.now in
-    put-none a.out.now a.at line (lt-leb (a.at + length line) (length a.out.now) (omega arith)) in
+    let all_told = put-none a.out.now a.at line (lt-leb (a.at + length line) (length a.out.now) (omega arith)) in
     record { buffer = all_told.0; reached = all_told.1 }
 
 pub write_form-requires : goal.write_form-requires
@@ -25,18 +25,18 @@ write_form-requires c =
 
 pub returns-then-form_fits : goal.returns-then-form_fits
 returns-then-form_fits c =
-    let all_told = let a = c.args in
+    let a = c.args in
     let line = form_of a.form.now a.values.now in
     let f : length line ≤ length a.out.now - a.at = leb-true _ _ (sym c.form_fits.ensures ∙ c.if-form_fits.true) in
     let w = c.write_form in
     let whole : Wrote a.out.now a.at line w.new.out w.result = record { stored = w.ensures.buffer; reached = w.ensures.reached } in
-    put_whole whole (le-leb (a.at + length line) (length a.out.now) (omega arith)) in
+    let all_told = put_whole whole (le-leb (a.at + length line) (length a.out.now) (omega arith)) in
     record { buffer = all_told.0; reached = all_told.1 }
 
 pub returns : goal.returns
 returns c =
-    let all_told = let a = c.args in
+    let a = c.args in
     let line = form_of a.form.now a.values.now in
     let f : length a.out.now - a.at < length line = leb-false _ _ (sym c.form_fits.ensures ∙ c.if-form_fits.false) in
-    put-none a.out.now a.at line (lt-leb (a.at + length line) (length a.out.now) (omega arith)) in
+    let all_told = put-none a.out.now a.at line (lt-leb (a.at + length line) (length a.out.now) (omega arith)) in
     record { buffer = all_told.0; reached = all_told.1 }

@@ -1,7 +1,7 @@
 -- `write_form` meets its contract. The loop's invariant: with what is to come stored from where it stands, the buffer is what it is to be, and the end is
 -- where it is to be. The measure is how much of the form is to come. Assumes nothing.
 use mathlib.Core.Path.{ap, ◌∙◌}
-use Prim.Native.Nat.{ℕ, ◌+◌, ◌-◌, ◌≤◌}
+use Prim.Native.Nat.{ℕ, ◌+◌, ◌≤◌}
 use native.Mathlib.Omega.{arith}
 use lib.ListN.{length, drop}
 use Rattle.decimals.specs.Decimal.{digits_of}

@@ -1,7 +1,7 @@
 -- `write_left` meets its contract. The loop's invariant: with what is to come stored from where it stands, the buffer is what it is to be, and the end is
 -- where it is to be. The measure is how many numbers are to come. Assumes nothing.
 use mathlib.Core.Path.{refl, ap, ◌∙◌}
-use Prim.Native.Nat.{◌+◌, ◌-◌}
+use Prim.Native.Nat.{◌+◌}
 use native.Mathlib.Omega.{arith}
 use lib.ListN.{length, length-set}
 use Rattle.decimals.specs.Decimal.{digits_of}

@@ -5,6 +5,6 @@ use Rattle.outcomes.proofs.success_in.Goals as goal
 
 pub returns-else-count-eq1 : goal.returns-else-count-eq1
 returns-else-count-eq1 c = record {
-      value = rw (c.in-Single.is, c.if-success.true, ne_eqb _ _ c.if-count-eq1.false);
-      one = omega arith;
-    }
+  value = rw (c.in-Single.is, c.if-success.true, ne_eqb _ _ c.if-count-eq1.false);
+  one = omega arith;
+}

@@ -29,8 +29,8 @@ returns-then-has_room c =
 
 pub returns : goal.returns
 returns c =
-    let all_told = let a = c.args in
+    let a = c.args in
     let e : length (refusal_of a.number a.place) ≡ c.digits-a.result + c.digits-b.result + 11
     = omega (arith, refusal-length a.number a.place, c.digits-a.ensures.count, c.digits-b.ensures.count) in
-    put-none _ a.at (refusal_of a.number a.place) (rw e (sym c.has_room.ensures ∙ c.if-has_room.false)) in
+    let all_told = put-none _ a.at (refusal_of a.number a.place) (rw e (sym c.has_room.ensures ∙ c.if-has_room.false)) in
     record { buffer = all_told.0; reached = all_told.1 }

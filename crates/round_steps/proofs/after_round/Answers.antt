@@ -7,7 +7,7 @@ returns-then-needs_bytes c =
     let missing = sym c.needs_bytes.ensures ∙ c.if-needs_bytes.true in
     let wanted = c.wants_after-wants.ensures in record {
       input = rw missing c.keep_rest-kept.ensures.buffer;
-      run = rw (missing, wanted, c.keep_rest-kept.ensures.count.0);
+      run = rw (missing, wanted, c.keep_rest-kept.ensures.count);
     }
 
 pub returns : goal.returns

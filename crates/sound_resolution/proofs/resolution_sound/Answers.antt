@@ -7,7 +7,6 @@ use Prim.Native.Nat.{ℕ, suc, ◌-◌}
 use native.Mathlib.Numerals.{add-one}
 use native.Mathlib.Omega.{arith}
 use borrow.Author.Rules.{rules}
-use borrow.Author.Tests.{not-true, not-false}
 use borrow.Author.Count.{below_more}
 use lib.ListN.{length, take, get_or}
 use Rattle.listlaws.specs.Every.{every_from}
@@ -58,7 +57,7 @@ returns-then-not-group_sound c =
     let w : length a.messages ≡ 128 = search rules in
     let s = at (take r.result.count r.result.list) in
     let e : c.group_sound.result ≡ s l.g (get_or a.queues l.g 0) = rw add-one at c.group_sound.ensures in
-    sym (every_fails s 0 a.queues l.g (omega arith) (sym e ∙ not-true _ c.if-not-group_sound.true-raw))
+    sym (every_fails s 0 a.queues l.g (omega arith) (sym e ∙ c.if-not-group_sound.true))
     ∙ queues_drawn (take k.result a.messages) r.result r.ensures a.queues
     ∙ ap (λ (l : List TableMessage). queues_sound l a.queues) (all-taken a.messages w a.count k.result k.ensures)
 
@@ -67,7 +66,7 @@ loop-g-preserved c =
     let l = c.loop-g in
     let r = c.resolving_places-found.result in
     let e : c.group_sound.result ≡ at (take r.count r.list) l.g (get_or c.args.queues l.g 0) = rw add-one at c.group_sound.ensures in
-    (omega arith, omega arith, below_more _ _ l.invariant.2 (sym e ∙ not-false _ c.if-not-group_sound.false-raw))
+    (omega arith, omega arith, below_more _ _ l.invariant.2 (sym e ∙ c.if-not-group_sound.false))
 
 pub returns : goal.returns
 returns c =

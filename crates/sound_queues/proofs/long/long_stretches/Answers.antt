@@ -28,14 +28,14 @@ loop-i-preserved c =
     let f = long-left (get_or a.messages l.i no_table_message).condition h c.long_stretch-h.ensures in
     elim c.if-h.branch [
       | then-h w ↦ (
-      omega arith,
-      rw (w.firsts-is, w.n-is) (filled_one first 0 a.messages l.i l.n l.firsts no_table_message l.invariant.1 (omega arith) h.found h.first e w.if-h.true (omega arith)),
-      rw (w.lefts-is, w.n-is) (filled_one left 0 a.messages l.i l.n l.lefts no_table_message l.invariant.2 (omega arith) h.found h.left f w.if-h.true (omega arith)),
+        omega arith,
+        rw (w.firsts-is, w.n-is) (filled_one first 0 a.messages l.i l.n l.firsts no_table_message l.invariant.1 (omega arith) h.found h.first e w.if-h.true (omega arith)),
+        rw (w.lefts-is, w.n-is) (filled_one left 0 a.messages l.i l.n l.lefts no_table_message l.invariant.2 (omega arith) h.found h.left f w.if-h.true (omega arith)),
       )
       | else-h w ↦ (
-      omega arith,
-      rw (w.firsts-is, w.n-is) (filled_same first 0 a.messages l.i l.n l.firsts no_table_message l.invariant.1 (omega arith) h.found h.first e w.if-h.false),
-      rw (w.lefts-is, w.n-is) (filled_same left 0 a.messages l.i l.n l.lefts no_table_message l.invariant.2 (omega arith) h.found h.left f w.if-h.false),
+        omega arith,
+        rw (w.firsts-is, w.n-is) (filled_same first 0 a.messages l.i l.n l.firsts no_table_message l.invariant.1 (omega arith) h.found h.first e w.if-h.false),
+        rw (w.lefts-is, w.n-is) (filled_same left 0 a.messages l.i l.n l.lefts no_table_message l.invariant.2 (omega arith) h.found h.left f w.if-h.false),
       )
     ]
 

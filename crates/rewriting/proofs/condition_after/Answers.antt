@@ -1,0 +1,11 @@
+-- `condition_after` goes by the writing. Assumes nothing.
+use Rattle.rewriting.proofs.condition_after.Goals as goal
+
+pub returns-in-Offer : goal.returns-in-Offer
+returns-in-Offer c = rw c.in-Offer.is
+
+pub returns-in-Hold : goal.returns-in-Hold
+returns-in-Hold c = rw c.in-Hold.is
+
+pub returns-in-Commit : goal.returns-in-Commit
+returns-in-Commit c = rw c.in-Commit.is

@@ -1,0 +1,12 @@
+-- `with_count` meets its contract: a store past the end is none.
+-- Assumes nothing.
+use mathlib.Core.Path.{◌≡◌, sym}
+use native.Mathlib.Omega.{arith}
+use lib.ListN.{length}
+use lib.Seq.{set_out}
+use borrow.Author.Rules.{rules}
+use Rattle.row_fields.proofs.with_count.Goals as goal
+
+pub returns-else-place-lt8 : goal.returns-else-place-lt8
+returns-else-place-lt8 c =
+    let n : length c.args.counts ≡ 8 = search rules in sym (set_out _ _ _ (omega arith))

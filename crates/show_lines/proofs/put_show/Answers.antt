@@ -1,0 +1,26 @@
+-- `put_show` puts one run of lines after another, which is the run of all. Assumes nothing.
+use lib.ListN.{take}
+use Rattle.listlaws.specs.Lists.{gather_of}
+use Rattle.programs.proofs.LineRuns.{one_line, these-lines, then_lines}
+use Rattle.counter_lines.specs.CounterLines.{group_line}
+use Rattle.message_lines.specs.MessageLines.{message_lines}
+use Rattle.wire_lines.specs.WireLines.{wire_line, groups_lines}
+use Rattle.show_lines.specs.ShowLines.{show_lines}
+use Rattle.show_lines.proofs.put_show.Goals as goal
+
+pub returns : goal.returns
+unfolding show_lines
+returns c =
+    let at_messages = c in
+    let at_groups = at_messages in
+    let at_owners = at_groups in
+    let at_counters = at_owners in
+    let a = at_counters.args in
+    let owners = one_line (at_owners.put_owners-second.ensures.buffer, at_owners.put_owners-second.ensures.reached) in
+    let groups = these-lines (groups_lines a.c.groups (group_line a.call a.c)) (at_groups.put_groups-third.ensures.buffer, at_groups.put_groups-third.ensures.reached) in
+    let messages = these-lines (gather_of (message_lines a.call) (take a.count a.stations)) (at_messages.put_messages-fourth.ensures.buffer, at_messages.put_messages-fourth.ensures.reached) in
+    let wire = these-lines (groups_lines a.c.groups (wire_line a.call a.c.minislots a.wire)) (c.put_wire.ensures.buffer, c.put_wire.ensures.reached) in
+    let all = then_lines (then_lines (then_lines (then_lines (one_line (at_counters.put_counters-first.ensures.buffer, at_counters.put_counters-first.ensures.reached)) owners) groups) messages) wire in record {
+      buffer = all.buffer;
+      reached = all.reached;
+    }

@@ -1,0 +1,12 @@
+-- `offer_in` meets its contract: an offer, by what was read. Assumes nothing.
+use mathlib.Core.Path.{sym, ◌∙◌}
+use Rattle.write_fields.specs.WriteFields.{new_by}
+use Rattle.write_fields.proofs.offer_in.Goals as goal
+
+pub returns-in-Numbers : goal.returns-in-Numbers
+unfolding new_by
+returns-in-Numbers c = rw (sym c.offer_fields-fields.ensures ∙ c.in-Numbers.is)
+
+pub returns-in-Broken : goal.returns-in-Broken
+unfolding new_by
+returns-in-Broken c = rw (sym c.offer_fields-fields.ensures ∙ c.in-Broken.is)
