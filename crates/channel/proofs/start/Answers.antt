@@ -13,5 +13,5 @@ pub returns : goal.returns
 returns c =
     let a = c.args in
     let left : leaves_started c.store.new.table c.begin-b.result.reply ≡ channel_start_of (channel_of a.table.now a.wire) a.m a.n a.indexes.now =
-        rw (c.store.ensures, c.begin-b.ensures) (start_is a.table.now a.wire a.m a.n a.indexes.now) in
+    rw (c.store.ensures, c.begin-b.ensures) (start_is a.table.now a.wire a.m a.n a.indexes.now) in
     (left, ap (λ (z : ChannelStarted). start_told z.answer) left ∙ channel-start_told (channel_of a.table.now a.wire) a.m a.n a.indexes.now)

@@ -14,5 +14,5 @@ pub returns : goal.returns
 returns c =
     let a = c.args in
     let left : leaves c.store.new.table c.place_calendar-o.result.reply ≡ channel_calendar_of (channel_of a.table.now a.wire) a.entries =
-        rw (c.store.ensures, c.place_calendar-o.ensures, c.load-d.ensures) (setting_is a.table.now a.wire a.entries) in
+    rw (c.store.ensures, c.place_calendar-o.ensures, c.load-d.ensures) (setting_is a.table.now a.wire a.entries) in
     (left, ap (λ (z : ChannelResult). call_told z.answer) left ∙ channel-told (channel_of a.table.now a.wire) (Calendar a.entries))

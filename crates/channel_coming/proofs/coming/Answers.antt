@@ -12,5 +12,5 @@ pub returns : goal.returns
 returns c =
     let a = c.args in
     let left : leaves_coming c.place_coming.new.list c.place_coming.result ≡ coming_of (channel_of a.table.now a.wire) a.list.now =
-        rw (c.place_coming.ensures.0, c.place_coming.ensures.1, c.load-d.ensures) (coming-loaded a.table.now a.wire a.list.now) in
+    rw (c.place_coming.ensures.0, c.place_coming.ensures.1, c.load-d.ensures) (coming-loaded a.table.now a.wire a.list.now) in
     (left, ap (λ (z : ComingResult). coming_told z.answer) left ∙ coming-told (channel_of a.table.now a.wire) a.list.now)

@@ -34,5 +34,5 @@ returns c =
     let a = c.args in
     let j = judged-lent a.table.now a.wire a.picks.now c.load-d.result c.judge-j.result c.load-d.ensures c.judge-j.ensures in
     let left : leaves c.step_all-sent.new.table c.reply.result ≡ channel_slot_of (channel_of a.table.now a.wire) a.picks.now =
-        rw (c.reply.ensures, c.step_all-sent.ensures.0, c.step_all-sent.ensures.1, j) (slot_is a.table.now a.wire a.picks.now) in
+    rw (c.reply.ensures, c.step_all-sent.ensures.0, c.step_all-sent.ensures.1, j) (slot_is a.table.now a.wire a.picks.now) in
     (left, ap (λ (z : ChannelResult). call_told z.answer) left ∙ channel-told (channel_of a.table.now a.wire) (Slot a.picks.now))

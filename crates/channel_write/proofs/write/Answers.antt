@@ -14,5 +14,5 @@ pub returns : goal.returns
 returns c =
     let a = c.args in
     let left : leaves c.store.new.table c.place_write-o.result.reply ≡ channel_write_of (channel_of a.table.now a.wire) a.index a.w =
-        rw (c.store.ensures, c.place_write-o.ensures, c.load-d.ensures) (write-is a.table.now a.wire a.index a.w) in
+    rw (c.store.ensures, c.place_write-o.ensures, c.load-d.ensures) (write-is a.table.now a.wire a.index a.w) in
     (left, ap (λ (z : ChannelResult). call_told z.answer) left ∙ channel-told (channel_of a.table.now a.wire) (Write a.index a.w))

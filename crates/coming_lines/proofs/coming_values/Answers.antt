@@ -1,6 +1,6 @@
 -- `coming_values` meets its contract. The loop's invariant: with the entries to come stored from where it stands, the numbers are what they are to be. The measure is how many entries are to come. Assumes nothing.
 use mathlib.Core.Path.{◌≡◌, refl, ◌∙◌}
-use Prim.Native.Nat.{◌-◌, ◌≤◌}
+use Prim.Native.Nat.{◌≤◌}
 use native.Mathlib.Omega.{arith}
 use borrow.Author.Rules.{rules}
 use lib.ListN.{length, length-set, drop_of_length-le}

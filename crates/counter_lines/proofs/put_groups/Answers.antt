@@ -1,6 +1,5 @@
 -- `put_groups` meets its contract. The loop's invariant: with the lines to come put from where it stands, buffer and place are what they are to be.
 -- The measure is how many groups are to come. Assumes nothing.
-use Prim.Native.Nat.{◌-◌}
 use native.Mathlib.Omega.{arith}
 use Rattle.programs.proofs.LineRuns.{run_none, run-line, run-whole}
 use Rattle.wire_lines.proofs.GroupRuns.{next-group, no_group}

@@ -1,7 +1,7 @@
 -- `put_messages` meets its contract. The loop's invariant: with the lines to come put from where it stands, buffer and place are what they are to be.
 -- The measure is how many stations are to come. Assumes nothing.
 use mathlib.Core.Path.{◌≡◌}
-use Prim.Native.Nat.{◌-◌, ◌<◌, min}
+use Prim.Native.Nat.{◌<◌, min}
 use native.Mathlib.Omega.{arith}
 use borrow.Author.Rules.{rules}
 use lib.ListN.{length}

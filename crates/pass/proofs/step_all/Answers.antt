@@ -36,8 +36,7 @@ loop-i-preserved c =
 pub returns : goal.returns
 returns c =
     let a = c.args in
-    let last : c.loop-i.i ≡ rounds_of (length a.table.now) (length a.picks.now) a.steps = omega (arith, c.rounds-n.ensures) in
-    (
+    let last : c.loop-i.i ≡ rounds_of (length a.table.now) (length a.picks.now) a.steps = omega (arith, c.rounds-n.ensures) in (
       c.loop-i.invariant.table ∙ ap (stepped_to a.o a.table.now a.picks.now) last ∙ stepped_to-all a.o a.table.now a.picks.now a.steps,
       c.loop-i.invariant.sent ∙ ap (sent_to a.o a.table.now a.picks.now) last ∙ sent_to-all a.o a.table.now a.picks.now a.steps,
     )

@@ -11,16 +11,12 @@ use Rattle.show_lines.proofs.put_show.Goals as goal
 pub returns : goal.returns
 unfolding show_lines
 returns c =
-    let at_messages = c in
-    let at_groups = at_messages in
-    let at_owners = at_groups in
-    let at_counters = at_owners in
-    let a = at_counters.args in
-    let owners = one_line (at_owners.put_owners-second.ensures.buffer, at_owners.put_owners-second.ensures.reached) in
-    let groups = these-lines (groups_lines a.c.groups (group_line a.call a.c)) (at_groups.put_groups-third.ensures.buffer, at_groups.put_groups-third.ensures.reached) in
-    let messages = these-lines (gather_of (message_lines a.call) (take a.count a.stations)) (at_messages.put_messages-fourth.ensures.buffer, at_messages.put_messages-fourth.ensures.reached) in
+    let a = c.args in
+    let owners = one_line (c.put_owners-second.ensures.buffer, c.put_owners-second.ensures.reached) in
+    let groups = these-lines (groups_lines a.c.groups (group_line a.call a.c)) (c.put_groups-third.ensures.buffer, c.put_groups-third.ensures.reached) in
+    let messages = these-lines (gather_of (message_lines a.call) (take a.count a.stations)) (c.put_messages-fourth.ensures.buffer, c.put_messages-fourth.ensures.reached) in
     let wire = these-lines (groups_lines a.c.groups (wire_line a.call a.c.minislots a.wire)) (c.put_wire.ensures.buffer, c.put_wire.ensures.reached) in
-    let all = then_lines (then_lines (then_lines (then_lines (one_line (at_counters.put_counters-first.ensures.buffer, at_counters.put_counters-first.ensures.reached)) owners) groups) messages) wire in record {
+    let all = then_lines (then_lines (then_lines (then_lines (one_line (c.put_counters-first.ensures.buffer, c.put_counters-first.ensures.reached)) owners) groups) messages) wire in record {
       buffer = all.buffer;
       reached = all.reached;
     }

@@ -1,7 +1,6 @@
 -- `row_values` meets its contract. The loop's invariant: the first numbers are the call, the group, and word and count of each minislot so far.
 -- The measure is how many minislots are to come. Assumes nothing.
 use mathlib.Core.Path.{◌≡◌, refl}
-use Prim.Native.Nat.{◌-◌}
 use native.Mathlib.Omega.{arith}
 use borrow.Author.Rules.{rules}
 use lib.ListN.{length, length-set}
