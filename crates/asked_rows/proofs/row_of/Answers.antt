@@ -1,6 +1,5 @@
 -- `row_of` joins one request of the group after the other to the row: after i requests it is the row of the first i. Assumes nothing.
 use mathlib.Core.Path.{◌≡◌, ap, ◌∙◌}
-use Prim.Native.Nat.{◌-◌}
 use native.Mathlib.Omega.{arith}
 use borrow.Author.Rules.{rules}
 use lib.ListN.{length}

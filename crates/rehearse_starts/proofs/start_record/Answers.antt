@@ -11,7 +11,7 @@ returns-then-fields-ne0 c =
     let a = c.args in
     let s = c.start_fields-fields in
     let told =
-        as_result a.r a.next a.out.now a.at (start-broken a.r s.result c.if-fields-ne0.true) (c.end_with.ensures.buffer, c.end_with.ensures.answer) in
+    as_result a.r a.next a.out.now a.at (start-broken a.r s.result c.if-fields-ne0.true) (c.end_with.ensures.buffer, c.end_with.ensures.answer) in
     record { buffer = rw (← s.ensures.fields) told.0; answer = rw (← s.ensures.fields) told.1 }
 
 pub slice_bounds-values-end : goal.slice_bounds-values-end
@@ -31,6 +31,6 @@ returns c =
     let s = c.start_fields-fields in
     let started = rw c.blank.ensures at c.start-started.ensures.0 in
     let told =
-        as_result a.r a.next a.out.now a.at (start-made a.r s.result c.if-fields-ne0.false started)
-        (c.begin_with.ensures.buffer, c.begin_with.ensures.answer) in
+    as_result a.r a.next a.out.now a.at (start-made a.r s.result c.if-fields-ne0.false started)
+    (c.begin_with.ensures.buffer, c.begin_with.ensures.answer) in
     record { buffer = rw (← s.ensures.fields) told.0; answer = rw (← s.ensures.fields) told.1 }

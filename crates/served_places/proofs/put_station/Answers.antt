@@ -6,6 +6,4 @@ use Rattle.served_places.proofs.put_station.Goals as goal
 pub returns : goal.returns
 unfolding put_station_of put_message_of
 returns c =
-    let p = c in
-    let q = p in
-    p.put-2.ensures ∙ rw (p.places_had-2.ensures, q.put.ensures, q.places_had.ensures)
+    c.put-2.ensures ∙ rw (c.places_had-2.ensures, c.put.ensures, c.places_had.ensures)

@@ -1,13 +1,12 @@
 -- `counters_shared` compares one record's counters after the other with the first's: what is left of the table compares as the whole.
 -- Assumes nothing.
 use mathlib.Core.Path.{◌≡◌, refl, sym, ap, ◌∙◌}
-use Prim.Native.Nat.{◌-◌}
 use native.Mathlib.Omega.{arith}
 use borrow.Author.Rules.{rules}
 use lib.ListN.{length, take}
 use Rattle.rules.specs.declared.Counters.{Counters}
 use Rattle.listlaws.specs.Lists.{each}
-use Rattle.channel_rules.specs.Soundness.{same_counters, counters_shared}
+use Rattle.channel_rules.specs.Soundness.{counters_shared}
 use Rattle.listlaws.proofs.Loops.{first_rest, first-none, each_next, each_stop}
 use Rattle.drawing.proofs.Filling.{all-taken}
 use Rattle.sound_counters.proofs.FirstRecord.{blank}

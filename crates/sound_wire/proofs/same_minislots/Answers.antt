@@ -1,13 +1,11 @@
 -- `same_minislots` compares one minislot after the other: each one before j is the same, and one that is not fails the row. Assumes nothing.
 use mathlib.Core.Path.{◌≡◌, sym, ◌∙◌}
-use Prim.Native.Nat.{◌-◌}
 use native.Mathlib.Omega.{arith}
 use borrow.Author.Rules.{rules}
 use borrow.Author.Count.{below_more}
 use lib.ListN.{length}
 use Rattle.listlaws.proofs.Table.{every_fails, every_holds}
 use Rattle.requests.specs.Together.{silent}
-use Rattle.channel_rules.specs.Soundness.{same_minislot}
 use Rattle.sound_wire.proofs.same_minislots.Goals as goal
 use Rattle.sound_wire.proofs.same_minislots.Invariants.{same}
 

@@ -1,6 +1,6 @@
 -- `all_indexes` tests one index after the other: what is left of the list tests as the whole. Assumes nothing.
 use mathlib.Core.Path.{refl, sym, ◌∙◌}
-use Prim.Native.Nat.{◌-◌, ◌≤◌}
+use Prim.Native.Nat.{◌≤◌}
 use native.Mathlib.Omega.{arith}
 use lib.ListN.{length, drop_of_length-le}
 use Rattle.listlaws.proofs.Loops.{rest, each_next, each_stop}
