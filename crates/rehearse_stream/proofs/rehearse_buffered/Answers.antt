@@ -26,39 +26,39 @@ loop-rounds-preserved c =
     let room = sym c.has_room.ensures ∙ c.if-has_room.true in
     let goes = sym c.goes_on.ensures ∙ c.if-goes_on.true in (
       omega arith,
-      omega (arith, v.auto.1.1.1.1.0, l.invariant.1),
+      omega arith,
       sym (went_on rehearse_program a.bytes.now a.ended l.out (reached_by l.n) _ _ v.ensures.buffer v.ensures.answer room l.rounds c.loop-rounds-test.true goes) ∙ l.invariant.2,
     )
 
 pub returns-else-goes_on : goal.returns-else-goes_on
 returns-else-goes_on c =
-    let all_told = let a = c.args in
+    let a = c.args in
     let l = c.loop-rounds in
     let v = c.rehearse_next-n in
     let room = sym c.has_room.ensures ∙ c.if-has_room.true in
     let goes = sym c.goes_on.ensures ∙ c.if-goes_on.false in
-    parts_are rehearse_program
-    (sym (stopped rehearse_program a.bytes.now a.ended l.out (reached_by l.n) _ _ v.ensures.buffer v.ensures.answer room l.rounds c.loop-rounds-test.true goes)
+    let same =
+    sym (stopped rehearse_program a.bytes.now a.ended l.out (reached_by l.n) _ _ v.ensures.buffer v.ensures.answer room l.rounds c.loop-rounds-test.true goes)
     ∙ l.invariant.2
-    ∙ begun rehearse_program a.r a.bytes.now a.start a.ended a.out.now a.at) in
-    record { buffer = all_told.0; answer = all_told.1 }
+    ∙ begun rehearse_program a.r a.bytes.now a.start a.ended a.out.now a.at in
+    record { buffer = (parts_are rehearse_program same).0; answer = (parts_are rehearse_program same).1 }
 
 pub returns-else-has_room : goal.returns-else-has_room
 returns-else-has_room c =
-    let all_told = let a = c.args in
+    let a = c.args in
     let l = c.loop-rounds in
-    parts_are rehearse_program
-    (sym (no_room rehearse_program a.bytes.now a.ended l.out (reached_by l.n) l.rounds c.loop-rounds-test.true (sym c.has_room.ensures ∙ c.if-has_room.false))
+    let same =
+    sym (no_room rehearse_program a.bytes.now a.ended l.out (reached_by l.n) l.rounds c.loop-rounds-test.true (sym c.has_room.ensures ∙ c.if-has_room.false))
     ∙ l.invariant.2
-    ∙ begun rehearse_program a.r a.bytes.now a.start a.ended a.out.now a.at) in
-    record { buffer = all_told.0; answer = all_told.1 }
+    ∙ begun rehearse_program a.r a.bytes.now a.start a.ended a.out.now a.at in
+    record { buffer = (parts_are rehearse_program same).0; answer = (parts_are rehearse_program same).1 }
 
 pub returns : goal.returns
 returns c =
-    let all_told = let a = c.args in
+    let a = c.args in
     let l = c.loop-rounds in
-    parts_are rehearse_program
-    (sym (no_round rehearse_program a.bytes.now a.ended l.out (reached_by l.n) l.rounds c.loop-rounds-test.false)
+    let same =
+    sym (no_round rehearse_program a.bytes.now a.ended l.out (reached_by l.n) l.rounds c.loop-rounds-test.false)
     ∙ l.invariant.2
-    ∙ begun rehearse_program a.r a.bytes.now a.start a.ended a.out.now a.at) in
-    record { buffer = all_told.0; answer = all_told.1 }
+    ∙ begun rehearse_program a.r a.bytes.now a.start a.ended a.out.now a.at in
+    record { buffer = (parts_are rehearse_program same).0; answer = (parts_are rehearse_program same).1 }

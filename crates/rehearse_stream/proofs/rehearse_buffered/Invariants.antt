@@ -9,7 +9,7 @@ use Rattle.rehearse_stream.proofs.rehearse_buffered.Given as goal
 
 abbrev pub invariant-loop-rounds : goal.invariant-loop-rounds
 invariant-loop-rounds l =
-    (l.rounds ≤ length l.bytes + 1) × (length l.out ≡ length l.at) × (buffered_from rehearse_program l.rounds l.bytes l.ended l.out (reached_by l.n) ≡ buffered_from rehearse_program l.initial.rounds l.bytes l.ended l.at (reached_by l.initial.n))
+    (l.rounds ≤ length l.bytes + 1) × (length l.out ≡ length l.initial.out) × (buffered_from rehearse_program l.rounds l.bytes l.ended l.out (reached_by l.n) ≡ buffered_from rehearse_program l.initial.rounds l.bytes l.ended l.initial.out (reached_by l.initial.n))
 
 abbrev pub decreases-loop-rounds : goal.decreases-loop-rounds
 decreases-loop-rounds l = l.rounds
