@@ -24,7 +24,7 @@ use Rattle.rules.proofs.LimitLaws.{between-bounds}
 use Rattle.rules.proofs.Refusals.{unless-by, test_passed}
 use Rattle.channel_rules.specs.Soundness.{sound_table}
 use Rattle.channel_rules.specs.ChannelCalls.{Channel, has_stations, channel_call, channel_answers}
-use Rattle.coming_rules.specs.declared.ComingAnswer.TheVariants.{Until, Refused as RefusedComing}
+use Rattle.coming_rules.specs.declared.ComingAnswer.TheVariants.{Until}
 use Rattle.coming_rules.specs.Quiet.{quieted}
 use Rattle.coming_rules.specs.Coming.{ComingResult, slots_on, quiet_after, places_in, first_from, sender_in, coming_senders, coming_until}
 use Rattle.coming_rules.specs.Coming.{coming_number_of, refused_coming, coming_of}
