@@ -29,8 +29,7 @@ pub fn progress_of(line: Line) -> Progress
     ensures { result ≡ progress_of line }
 {
     match line {
-        Line::Nothing => Progress::Went,
-        Line::Row { .. } => Progress::Went,
+        Line::Nothing | Line::Row { .. } => Progress::Went,
         Line::Refusal { number, .. } => Progress::Refused(number),
     }
 }
@@ -39,13 +38,11 @@ pub fn progress_of(line: Line) -> Progress
 fn stepped(s: Step, next: usize) -> Advance
     ensures { result ≡ stepped_of s next }
 {
-    let line = s.line;
-    let follower = s.follower;
     Advance {
-        progress: progress_of(line),
-        follower,
+        progress: progress_of(s.line),
+        follower: s.follower,
         next,
-        line,
+        line: s.line,
     }
 }
 
@@ -68,8 +65,7 @@ fn done(f: Follower, start: usize) -> Advance
 pub fn advance_at(f: Follower, bytes: &[u8], start: usize, ended: bool) -> Advance
     ensures { advanced result ≡ advance_of follow_program f bytes.now start ended }
 {
-    let cut = cut_record(bytes, start, LONGEST, ended);
-    match cut {
+    match cut_record(bytes, start, LONGEST, ended) {
         Cut::Record { end, next } => stepped(read_record(f, &bytes[start..end]), next),
         Cut::More => Advance {
             progress: Progress::More,

@@ -16,8 +16,7 @@ fn put_number(out: &mut [u8], at: usize, call: u64, form: &[u8], number: u8) -> 
     ensures buffer { out.new ≡ put_at out.old at (form_of form.now (call ∷ number ∷ [])) }
     ensures reached { result ≡ place_after out.old at (form_of form.now (call ∷ number ∷ [])) }
 {
-    let values = [call, number as u64];
-    put_form(out, at, form, &values)
+    put_form(out, at, form, &[call, number as u64])
 }
 
 // The line of an answer, at place at if it fits there; gives the place after it, or at.
@@ -38,10 +37,7 @@ pub fn put_answer(
         Answer::OnHold(total) => put_number(out, at, call, b"#,hold", total),
         Answer::Committed(total) => put_number(out, at, call, b"#,commit", total),
         Answer::Withdrawn(total) => put_number(out, at, call, b"#,withdraw", total),
-        Answer::Set => {
-            let values = [call];
-            put_form(out, at, b"#,calendar", &values)
-        }
+        Answer::Set => put_form(out, at, b"#,calendar", &[call]),
         Answer::Went {
             turn,
             senders,

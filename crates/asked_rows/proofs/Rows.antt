@@ -10,7 +10,8 @@ use lib.Dec.{eqb, eqb-zero-suc}
 use lib.ListN.{length, get_or, take, replicate}
 use lib.Seq.{take-suc}
 use borrow.Author.Tests.{eq-eqb, ne_eqb}
-use Rattle.listlaws.specs.Lists.{gather_of, only_if}
+use Rattle.std.specs.List.{flat_map}
+use Rattle.listlaws.specs.Lists.{only_if}
 use Rattle.listlaws.proofs.Joining.{gather_append, gather-last}
 use Rattle.listlaws.proofs.Tabulating.{tabulate-at, tabulate-cong, tabulate-set}
 use Rattle.minislot.specs.declared.Minislot.{Minislot}
@@ -21,7 +22,7 @@ use Rattle.rules.specs.declared.Condition.TheVariants.{Free, Held, Fresh, Asked,
 use Rattle.rules.specs.declared.TableMessage.{TableMessage}
 use Rattle.channel_rules.specs.Soundness.{asked_request, asked_requests}
 use Rattle.asked_rows.specs.declared.WireRequest.{WireRequest}
-use Rattle.asked_rows.specs.Asked.{request_at, request_drawn, minislot_of, carried_row, requests_of}
+use Rattle.asked_rows.specs.Asked.{request_at, request_of, minislot_of, carried_row, requests_of}
 
 joined-none : (a : Minislot) → joined a silent ≡ a
 joined-none a = joined_comm a silent ∙ joined-silent a
@@ -35,6 +36,10 @@ pub row-none : (g : ℕ) → replicate 8 silent ≡ carried_row g []
 unfolding minislot_of together
 row-none g = refl
 
+-- what a read past the end of a list of requests would give
+abbrev pub no_request : WireRequest
+no_request = record { group = 0; minislot = 0; index = 0; total = 0 }
+
 -- ---- one request more
 
 -- what a request carries
@@ -46,9 +51,9 @@ minislot-more : (g j : ℕ) (l : List WireRequest) (a : WireRequest)
 unfolding minislot_of
 minislot-more g j l a =
     ap (λ (r : List Request). together (map carries r)) (gather-last (request_at g j) l a)
-    ∙ ap together (map-append carries (gather_of (request_at g j) l) (request_at g j a))
-    ∙ together-append (map carries (gather_of (request_at g j) l)) (map carries (request_at g j a))
-    ∙ ap (joined (together (map carries (gather_of (request_at g j) l)))) (alone (eqb a.group g && eqb a.minislot j) (record { index = a.index; total = a.total }))
+    ∙ ap together (map-append carries (flat_map (request_at g j) l) (request_at g j a))
+    ∙ together-append (map carries (flat_map (request_at g j) l)) (map carries (request_at g j a))
+    ∙ ap (joined (together (map carries (flat_map (request_at g j) l)))) (alone (eqb a.group g && eqb a.minislot j) (record { index = a.index; total = a.total }))
 
 module _ (g : ℕ) (l : List WireRequest) (a : WireRequest) where
   abbrev before : ℕ → Minislot
@@ -79,7 +84,7 @@ module _ (g : ℕ) (l : List WireRequest) (i : ℕ) (d : WireRequest) (h : i < l
 
 -- ---- the row of a table's messages
 
-request-asked : (g j index : ℕ) (k : Condition) → gather_of (request_at g j) (request_drawn (record { index = index; condition = k })) ≡ asked_request g j index k
+request-asked : (g j index : ℕ) (k : Condition) → flat_map (request_at g j) (request_of index k) ≡ asked_request g j index k
 request-asked g j index Free = refl
 request-asked g j index (Held t) = refl
 request-asked g j index (Fresh t) = refl
@@ -88,10 +93,10 @@ request-asked g j index (Resolving h i t) = refl
 request-asked g j index (Urgent i) = refl
 request-asked g j index (Long f l t) = refl
 
-pub requests-asked : (g j : ℕ) (l : List TableMessage) → gather_of (request_at g j) (requests_of l) ≡ asked_requests g j l
+pub requests-asked : (g j : ℕ) (l : List TableMessage) → flat_map (request_at g j) (requests_of l) ≡ asked_requests g j l
 requests-asked g j [] = refl
 requests-asked g j (m ∷ l) =
-    gather_append (request_at g j) (request_drawn m) (requests_of l) ∙ rw (request-asked g j m.index m.condition, requests-asked g j l)
+    gather_append (request_at g j) (request_of m.index m.condition) (requests_of l) ∙ rw (request-asked g j m.index m.condition, requests-asked g j l)
 
 pub minislot-asked : (g j : ℕ) (l : List TableMessage) → minislot_of g j (requests_of l) ≡ together (map carries (asked_requests g j l))
 unfolding minislot_of

@@ -1,41 +1,28 @@
 -- The requests of a table's messages, and the row that one group's make. Assumes nothing.
-use Rattle.std.specs.Prelude.{true, false, ◌&&◌, List, [], ◌∷◌, map, ℕ, suc, eqb, length}
-use Rattle.listlaws.specs.Lists.{gather_of, only_if, padded, tabulate}
+use Rattle.std.specs.Prelude.{◌&&◌, List, [], ◌∷◌, map, ℕ, suc, eqb}
+use Rattle.std.specs.List.{flat_map}
+use Rattle.listlaws.specs.Lists.{only_if, tabulate}
 use Rattle.minislot.specs.declared.Minislot.{Minislot}
 use Rattle.requests.specs.Together.{Request, carries, together}
 use Rattle.rules.specs.declared.TableMessage.{TableMessage}
 use Rattle.rules.specs.declared.Condition.{Condition}
 use Rattle.rules.specs.declared.Condition.TheVariants.{Free, Held, Fresh, Asked, Resolving, Urgent, Long}
-use Rattle.asked_rows.specs.declared.FoundRequest.{FoundRequest}
 use Rattle.asked_rows.specs.declared.WireRequest.{WireRequest}
-use Rattle.asked_rows.specs.declared.DrawnRequests.{DrawnRequests}
 
 -- ---- requests, each with its group and minislot
 
-abbrev pub no_request : WireRequest
-no_request = record { group = 0; minislot = 0; index = 0; total = 0 }
-
-abbrev pub not_asked : FoundRequest
-not_asked = record { found = false; request = no_request }
-
 -- the request of a condition, for a station's index
-abbrev pub request_found : ℕ → Condition → FoundRequest
-request_found index Free = not_asked
-request_found index (Held t) = not_asked
-request_found index (Fresh t) = not_asked
-request_found index (Asked g j t) = record { found = true; request = record { group = g; minislot = j; index = index; total = t } }
-request_found index (Resolving g i t) = not_asked
-request_found index (Urgent i) = not_asked
-request_found index (Long f l t) = not_asked
-
-abbrev pub request_drawn : TableMessage → List WireRequest
-request_drawn m = only_if (request_found m.index m.condition).found ((request_found m.index m.condition).request ∷ [])
+abbrev pub request_of : ℕ → Condition → List WireRequest
+request_of index Free = []
+request_of index (Held t) = []
+request_of index (Fresh t) = []
+request_of index (Asked g j t) = record { group = g; minislot = j; index = index; total = t } ∷ []
+request_of index (Resolving g i t) = []
+request_of index (Urgent i) = []
+request_of index (Long f l t) = []
 
 abbrev pub requests_of : List TableMessage → List WireRequest
-requests_of messages = gather_of request_drawn messages
-
-abbrev pub drawn_requests : List WireRequest → DrawnRequests
-drawn_requests l = record { list = padded 128 no_request l; count = length l }
+requests_of messages = flat_map (λ (m : TableMessage). request_of m.index m.condition) messages
 
 -- ---- one group's row
 
@@ -44,7 +31,7 @@ abbrev pub request_at : ℕ → ℕ → WireRequest → List Request
 request_at g j a = only_if (eqb a.group g && eqb a.minislot j) (record { index = a.index; total = a.total } ∷ [])
 
 unfoldable pub minislot_of : ℕ → ℕ → List WireRequest → Minislot
-minislot_of g j requests = together (map carries (gather_of (request_at g j) requests))
+minislot_of g j requests = together (map carries (flat_map (request_at g j) requests))
 
 abbrev pub carried_row : ℕ → List WireRequest → List Minislot
 carried_row g requests = tabulate 8 (λ j. minislot_of g (suc j) requests)

@@ -14,6 +14,7 @@ use minislot::Minislot;
 use requests::{carry, place};
 use rules::{Condition, Counters, MessageRecord, Station, WireRow};
 use runs_arrivals::draw;
+use std::array;
 
 #[derive(Clone, Copy)]
 pub(crate) struct Table {
@@ -47,13 +48,6 @@ fn calendar_of(kind: u64) -> [u16; 24] {
 }
 
 fn counters_of(kind: u64, groups: u8) -> Counters {
-    let calendar = calendar_of(kind);
-    let mut resolution = [0u16; 8];
-    let mut g: usize = 0;
-    while g < 8 {
-        resolution[g] = queue(g, kind, groups);
-        g += 1;
-    }
     let urgent = match kind {
         1 | 8 | 11 => 64,
         6 => 4095,
@@ -70,9 +64,9 @@ fn counters_of(kind: u64, groups: u8) -> Counters {
         next: 1,
         urgent,
         long,
-        resolution,
+        resolution: array::from_fn(|g| queue(g, kind, groups)),
         opened: [true; 8],
-        calendar,
+        calendar: calendar_of(kind),
         position: 0,
     }
 }
@@ -185,48 +179,37 @@ fn station_of(kind: u64, counters: Counters, k: u16) -> Station {
 
 // The wire with the request of a message, if it is asked.
 fn with_request(wire: [WireRow; 8], index: u16, m: MessageRecord) -> [WireRow; 8] {
-    let k = m.condition;
     let Condition::Asked {
         group,
         minislot,
         total,
-    } = k
+    } = m.condition
     else {
         return wire;
     };
     let mut wire = wire;
-    let g = (group as usize + 7) % 8;
-    let row = wire[g];
-    let minislots = row.minislots;
-    let joined = place(minislot, carry(index, total), minislots);
-    wire[g] = WireRow { minislots: joined };
+    let g = (usize::from(group) + 7) % 8;
+    let minislots = place(minislot, carry(index, total), wire[g].minislots);
+    wire[g] = WireRow { minislots };
     wire
 }
 
 // The wire that belongs to a table.
-fn wire_of(stations: [Station; 64]) -> [WireRow; 8] {
+fn wire_of(stations: &[Station; 64]) -> [WireRow; 8] {
     let silent = WireRow {
         minislots: [Minislot { word: 0, count: 0 }; 8],
     };
     let mut wire = [silent; 8];
-    let mut k: usize = 0;
-    while k < 64 {
-        let s = stations[k];
+    for s in stations {
         let half = with_request(wire, s.index, s.short);
         wire = with_request(half, s.index, s.long);
-        k += 1;
     }
     wire
 }
 
 pub(crate) fn table_of(kind: u64, groups: u8) -> Table {
     let counters = counters_of(kind, groups);
-    let mut stations = [station_of(kind, counters, 0); 64];
-    let mut k: usize = 0;
-    while k < 64 {
-        stations[k] = station_of(kind, counters, (k % 64) as u16);
-        k += 1;
-    }
-    let wire = wire_of(stations);
+    let stations = array::from_fn(|k| station_of(kind, counters, (k % 64) as u16));
+    let wire = wire_of(&stations);
     Table { stations, wire }
 }

@@ -7,31 +7,19 @@ ghost use Rattle.std.specs.Prelude.{◌≡◌, ◌&&◌, [], ◌∷◌};
 ghost use Rattle.rules.specs.Stepping.{is_fresh, acts_of, acts_beside};
 
 use idling::{idle, stay};
-use rules::{Acted, Condition, MessageRecord, Outcome};
+use rules::{Acted, Condition, Outcome};
 use steps::acts;
 
 fn is_fresh(k: Condition) -> bool
     ensures { result ≡ is_fresh k }
 {
-    match k {
-        Condition::Free => false,
-        Condition::Fresh { .. } => true,
-        Condition::Asked { .. } => false,
-        Condition::Resolving { .. } => false,
-        Condition::Urgent { .. } => false,
-        Condition::Long { .. } => false,
-        Condition::Held { .. } => false,
-    }
+    matches!(k, Condition::Fresh { .. })
 }
 
 fn both_fresh(short: Condition, long: Condition) -> bool
     ensures { result ≡ is_fresh short && is_fresh long }
 {
-    if is_fresh(short) {
-        is_fresh(long)
-    } else {
-        false
-    }
+    is_fresh(short) && is_fresh(long)
 }
 
 // What the two messages do, first the short one: of two fresh ones only that one asks. One after the other in a loop, so that `acts` is
@@ -39,21 +27,14 @@ fn both_fresh(short: Condition, long: Condition) -> bool
 pub fn acts_both(o: Outcome, short: Condition, long: Condition, pick: u8) -> [Acted; 2]
     ensures { result ≡ acts_of o short pick ∷ acts_beside o short long pick ∷ [] }
 {
-    let turn = o.turn;
-    let records = [
-        MessageRecord { condition: short },
-        MessageRecord { condition: long },
-    ];
-    let most: usize = if both_fresh(short, long) { 1 } else { 2 };
+    let messages = [short, long];
+    let most = if both_fresh(short, long) { 1 } else { 2 };
     let mut after = [stay(short), stay(long)];
-    let mut i: usize = 0;
-    while i < most {
-        let m = records[i];
-        let k = m.condition;
-        if !idle(turn, o.resolution, o.group, k) {
+    for i in 0..most {
+        let k = messages[i];
+        if !idle(o.turn, o.resolution, o.group, k) {
             after[i] = acts(o, k, pick);
         }
-        i += 1;
     }
     after
 }

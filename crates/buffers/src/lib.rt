@@ -11,18 +11,10 @@ pub fn keep_rest(buffer: &mut [u8], from: usize, to: usize) -> usize
     ensures count { result ≡ length (rest_of buffer.old from to) }
     ensures within { result ≤ length buffer.new }
 {
-    let mut next = from;
-    let mut kept = 0;
-    while next < to {
-        if next < buffer.len() {
-            buffer[kept] = buffer[next];
-            kept += 1;
-            next += 1;
-        } else {
-            return kept;
-        }
-    }
-    kept
+    let start = count_first(from, buffer);
+    let count = count_first(to.saturating_sub(from), &buffer[start..]);
+    buffer.copy_within(start..start + count, 0);
+    count
 }
 
 // How many of the first n bytes a buffer has.
@@ -31,8 +23,5 @@ pub fn count_first(n: usize, buffer: &[u8]) -> usize
     ensures within { result ≤ length buffer.now }
     ensures taken { result ≡ length (take result buffer.now) }
 {
-    if n <= buffer.len() {
-        return n;
-    }
-    buffer.len()
+    n.min(buffer.len())
 }

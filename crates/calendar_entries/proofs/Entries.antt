@@ -1,30 +1,22 @@
--- A calendar's entries one after the other, as a loop tests them: an entry's test, and what one entry says of those that are left.
+-- A calendar's entries as the library tests them one after the other: each within, and some free.
 -- Assumes nothing.
-use mathlib.Core.Path.{◌≡◌, refl, sym}
-use mathlib.Core.Bool.{Bool, true, false}
+use mathlib.Core.Path.{◌≡◌, refl, sym, ap}
+use mathlib.Core.Bool.{Bool, ◌||◌}
 use mathlib.Core.List.{List, [], ◌∷◌}
 use Prim.Native.Nat.{ℕ}
 use borrow.Author.Tests.{eq-eqb}
 use lib.Dec.{eqb}
 use lib.ListN.{length}
-use Rattle.listlaws.specs.Lists.{each}
+use Rattle.std.specs.List.{list_all, list_any}
 use Rattle.rules.specs.Calendars.{free_entry, entry_within, entries_within, some_free}
 
 -- of 24 entries the test of each is left
-pub entries_by : (l : List ℕ) (b : Bool) → length l ≡ 24 → each entry_within l ≡ b → b ≡ entries_within l
+pub entries_by : (l : List ℕ) (b : Bool) → length l ≡ 24 → list_all entry_within l ≡ b → b ≡ entries_within l
 unfolding entries_within
 entries_by l b w e = rw (eq-eqb _ _ w) (sym e)
 
--- some entry is free: none of no entries, and one entry more
-pub none_left : some_free [] ≡ false
+-- some entry is free
+pub free-any : (l : List ℕ) → list_any (λ x. eqb x free_entry) l ≡ some_free l
 unfolding some_free
-none_left = refl
-
-module _ {l r : List ℕ} {x : ℕ} (e : l ≡ x ∷ r) where
-  pub free_stop : eqb x free_entry ≡ true → some_free l ≡ true
-  unfolding some_free
-  free_stop h = rw (e, h)
-
-  pub free-next : eqb x free_entry ≡ false → some_free l ≡ some_free r
-  unfolding some_free
-  free-next h = rw (e, h)
+free-any [] = refl
+free-any (x ∷ l) = ap (λ b. eqb x free_entry || b) (free-any l)

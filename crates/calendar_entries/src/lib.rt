@@ -3,8 +3,9 @@
 
 #![tactic(auto)]
 
-ghost use Rattle.std.specs.Prelude.{◌≡◌};
-ghost use Rattle.rules.specs.Calendars.{entry_within, entries_within, some_free};
+ghost use Rattle.std.specs.Prelude.{◌≡◌, eqb};
+ghost use Rattle.std.specs.List.{list_all, list_any};
+ghost use Rattle.rules.specs.Calendars.{free_entry, entry_within, entries_within, some_free};
 ghost use Rattle.rules.specs.Settings.{entries_number_of};
 
 // The positions of a calendar, and the entry that stands for a free one.
@@ -19,38 +20,34 @@ const LAST_INDEX: u16 = 923;
 fn entry_within(x: u16) -> bool
     ensures { result ≡ entry_within x }
 {
-    if x == FREE {
-        return true;
-    }
-    x <= LAST_INDEX
+    x == FREE || x <= LAST_INDEX
+}
+
+// The two tests over the entries as a slice, which the library's `all` and `any` are proved for.
+fn each_within(entries: &[u16]) -> bool
+    ensures { result ≡ list_all entry_within entries.now }
+{
+    entries.iter().all(|x| entry_within(*x))
+}
+
+fn any_free(entries: &[u16]) -> bool
+    ensures { result ≡ list_any (λ x. eqb x free_entry) entries.now }
+{
+    entries.iter().any(|x| *x == FREE)
 }
 
 // Whether each entry is free or an index.
 pub fn entries_within(entries: [u16; 24]) -> bool
     ensures { result ≡ entries_within entries }
 {
-    let mut i: usize = 0;
-    while i < POSITIONS {
-        if !entry_within(entries[i]) {
-            return false;
-        }
-        i += 1;
-    }
-    true
+    each_within(&entries)
 }
 
 // Whether some entry is free.
 pub fn some_free(entries: [u16; 24]) -> bool
     ensures { result ≡ some_free entries }
 {
-    let mut i: usize = 0;
-    while i < POSITIONS {
-        if entries[i] == FREE {
-            return true;
-        }
-        i += 1;
-    }
-    false
+    any_free(&entries)
 }
 
 // The number that refuses a calendar's entries, 0 for none. 20: an entry is neither free nor an index. 21: none is free.

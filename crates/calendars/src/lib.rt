@@ -14,17 +14,11 @@ use rules::{Counters, Station};
 const LAST_POSITION: u8 = 23;
 
 // Whether calendar and position are within their limits.
+#[tactic(auto, unfolding(rules::specs::Calendars::calendar_within))]
 pub fn calendar_within(c: Counters) -> bool
     ensures { result ≡ calendar_within c }
 {
-    if LAST_POSITION < c.position {
-        return false;
-    }
-    let entries = c.calendar;
-    if !entries_within(entries) {
-        return false;
-    }
-    some_free(entries)
+    c.position <= LAST_POSITION && entries_within(c.calendar) && some_free(c.calendar)
 }
 
 // The entry of the coming slot; a position beyond the calendar is free.
@@ -47,18 +41,9 @@ pub fn next_position(p: u8) -> u8
 pub fn with_calendar(c: Counters, entries: [u16; 24]) -> Counters
     ensures { result ≡ with_calendar entries c }
 {
-    let resolution = c.resolution;
-    let opened = c.opened;
     Counters {
-        minislots: c.minislots,
-        groups: c.groups,
-        next: c.next,
-        urgent: c.urgent,
-        long: c.long,
-        resolution,
-        opened,
         calendar: entries,
-        position: c.position,
+        ..c
     }
 }
 
@@ -66,13 +51,8 @@ pub fn with_calendar(c: Counters, entries: [u16; 24]) -> Counters
 pub fn calendar_on(s: Station, entries: [u16; 24]) -> Station
     ensures { result ≡ calendar_on entries s }
 {
-    let counters = s.counters;
-    let short = s.short;
-    let long = s.long;
     Station {
-        counters: with_calendar(counters, entries),
-        index: s.index,
-        short,
-        long,
+        counters: with_calendar(s.counters, entries),
+        ..s
     }
 }

@@ -6,45 +6,41 @@ ghost use Rattle.std.specs.Prelude.{◌≡◌, drop};
 ghost use Rattle.fields.specs.Fields.{parts};
 ghost use Rattle.call_fields.specs.CallFields.{offer_in};
 
-use fields::{Field, field_at};
+use fields::field_at;
 use number_lists::NumberList;
 
-// An offer's or a hold's index and bytes, or number 19.
+// An offer's or a hold's index and bytes.
 #[derive(Clone, Copy)]
-pub enum OfferFields {
-    Numbers(u16, u32),
-    Broken,
+pub struct OfferFields {
+    pub index: u16,
+    pub bytes: u32,
 }
 
-// A start's m, n and indexes: number 0; or number 19.
+// A start's m, n and indexes.
 #[derive(Clone, Copy)]
 pub struct StartFields {
-    pub number: u8,
     pub m: u8,
     pub n: u8,
     pub indexes: NumberList,
 }
 
-// The two numbers of an offer or a hold, whose fields begin at place start.
-pub fn offer_fields(bytes: &[u8], start: usize) -> OfferFields
+// The two numbers of an offer or a hold, whose fields begin at place start. None: they break the form.
+pub fn offer_fields(bytes: &[u8], start: usize) -> Option<OfferFields>
     ensures { result ≡ offer_in (parts (drop start bytes.now)) }
 {
-    let one = field_at(bytes, start);
-    let Field::Number(index, next, last) = one else {
-        return OfferFields::Broken;
-    };
-    if last {
-        return OfferFields::Broken;
+    let one = field_at(bytes, start)?;
+    if one.last {
+        return None;
     }
-    if 65535 < index {
-        return OfferFields::Broken;
+    if 65535 < one.value {
+        return None;
     }
-    let two = field_at(bytes, next);
-    let Field::Number(size, _, done) = two else {
-        return OfferFields::Broken;
-    };
-    if done {
-        return OfferFields::Numbers(index as u16, size);
+    let two = field_at(bytes, one.next)?;
+    if !two.last {
+        return None;
     }
-    OfferFields::Broken
+    Some(OfferFields {
+        index: one.value as u16,
+        bytes: two.value,
+    })
 }

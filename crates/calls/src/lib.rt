@@ -46,10 +46,7 @@ pub struct Judged {
 pub fn has_stations(n: usize) -> bool
     ensures { result ≡ between 1 n 64 }
 {
-    if n < 1 {
-        return false;
-    }
-    n <= MOST_STATIONS
+    1 <= n && n <= MOST_STATIONS
 }
 
 // A call that is refused.
@@ -63,6 +60,7 @@ pub fn refuse(wire: [WireRow; 8], number: u8) -> CallReply
 }
 
 // The same, on a copy of the table: no record is written.
+#[tactic(auto, unfolding(table::specs::Loading::blank_of))]
 pub fn decline(wire: [WireRow; 8], number: u8) -> Decided
     ensures { result ≡ refused_decided wire number }
 {

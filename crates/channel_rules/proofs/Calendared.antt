@@ -11,7 +11,8 @@ use lib.Dec.{eqb, ltb, leb}
 use lib.ListN.{length, get_or}
 use borrow.Author.Tests.{eqb-true, eqb-false, ne_eqb, le-leb, lt-ltb, le-ltb, ltb-true, ltb-false}
 use Rattle.rules.specs.declared.Station.{Station}
-use Rattle.listlaws.specs.Lists.{each, only_if}
+use Rattle.std.specs.List.{list_all}
+use Rattle.listlaws.specs.Lists.{only_if}
 use Rattle.rules.specs.Calendars.{free_entry, owner_in, entry_within, some_free}
 use Rattle.rules.specs.Messages.{short_record}
 use Rattle.rules.specs.Plain.{among, on_channel}
@@ -35,7 +36,7 @@ on-among (s ∷ l) x = go (eqb s.index x) ∙ ap (λ (b : Bool). eqb s.index x |
     go true = lt-ltb 0 (suc (length l)) (omega arith)
     go false = deeper (is_on_table l x) refl
 
-pub entries-same : (l : List Station) (entries : List ℕ) → each (entry_on l) entries ≡ on_channel (map (λ (s : Station). s.index) l) entries
+pub entries-same : (l : List Station) (entries : List ℕ) → list_all (entry_on l) entries ≡ on_channel (map (λ (s : Station). s.index) l) entries
 entries-same l [] = refl
 entries-same l (x ∷ entries) = rw (on-among l x, entries-same l entries)
 
@@ -55,7 +56,7 @@ among-at (y ∷ l) x e = go (among-at l x) (eqb y x) refl e
     go ih false w e = let (i, h, q) = ih e in (suc i, omega arith, q)
 
 -- so the entries are within their limits
-pub entries-within : (indexes entries : List ℕ) → ((i : ℕ) → i < length indexes → get_or indexes i 0 < 924) → on_channel indexes entries ≡ true → each entry_within entries ≡ true
+pub entries-within : (indexes entries : List ℕ) → ((i : ℕ) → i < length indexes → get_or indexes i 0 < 924) → on_channel indexes entries ≡ true → list_all entry_within entries ≡ true
 entries-within indexes [] b e = refl
 entries-within indexes (x ∷ entries) b e =
     let (here, rest) = and_both (eqb x 65535 || among indexes x) (on_channel indexes entries) e in

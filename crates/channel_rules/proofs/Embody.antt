@@ -11,7 +11,8 @@ use lib.Dec.{eqb, ltb, leb}
 use lib.ListN.{length, get_or, set, length-map}
 use borrow.Author.Tests.{lt-ltb, le-ltb, ltb-true, ltb-false}
 use Rattle.rules.specs.declared.Station.{Station}
-use Rattle.listlaws.specs.Lists.{each, only_if}
+use Rattle.std.specs.List.{list_all}
+use Rattle.listlaws.specs.Lists.{only_if}
 use Rattle.rules.specs.Limits.{between}
 use Rattle.rules.specs.declared.Condition.{Condition}
 use Rattle.rules.specs.declared.Condition.TheVariants.{Free, Held, Fresh, Asked, Resolving, Urgent, Long}
@@ -126,7 +127,7 @@ position_eq x (i ∷ l) j = go (eqb i x) (position_eq x l (suc j))
         deeper true e = let w = ltb-true (position_in x l) (length l) e in rw (lt-ltb (suc (position_in x l)) (suc (length l)) (omega arith)) (ap some (omega arith))
         deeper false e = let w = ltb-false (position_in x l) (length l) e in rw (le-ltb (suc (position_in x l)) (suc (length l)) (omega arith))
 
-pub picks-same : (m : ℕ) (picks : List ℕ) → each (λ (pick : ℕ). between 1 pick m) picks ≡ in_range m picks
+pub picks-same : (m : ℕ) (picks : List ℕ) → list_all (λ (pick : ℕ). between 1 pick m) picks ≡ in_range m picks
 picks-same m [] = refl
 picks-same m (x ∷ picks) = ap (λ (b : Bool). leb 1 x && leb x m && b) (picks-same m picks)
 

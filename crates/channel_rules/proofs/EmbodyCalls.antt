@@ -17,7 +17,7 @@ use Rattle.rows.specs.Row.{readings, first_number, feedbacks}
 use Rattle.rules.specs.declared.Station.{Station}
 use Rattle.rules.specs.declared.StationSlot.{StationSlot}
 use Rattle.rules.specs.declared.WireRow.{WireRow}
-use Rattle.listlaws.specs.Lists.{each}
+use Rattle.std.specs.List.{list_all}
 use Rattle.rules.specs.Calendars.{owner_of}
 use Rattle.rules.specs.Limits.{between}
 use Rattle.rules.specs.Hearing.{words_of, counts_of}
@@ -73,7 +73,7 @@ module _ (S : Start) (G : GoodStart S) (p : Plain) (t : Table) (R : Same S p t) 
   here : has_stations ch.stations ≡ true
   here = rw (le-leb 1 (length ch.stations) (omega (arith, (same_length S t ch E), G.some)), le-leb (length ch.stations) 64 (omega (arith, (same_length S t ch E), G.few)))
 
-  within_all : each station_within ch.stations ≡ true
+  within_all : list_all station_within ch.stations ≡ true
   unfolding records_within
   within_all = (sound-tests ch.stations ch.wire sound).within
 
@@ -172,11 +172,11 @@ module _ (S : Start) (G : GoodStart S) (p : Plain) (t : Table) (R : Same S p t) 
               (settled-fits S pick jl jh p t R r));
         }
 
-    all-through : (j : ℕ) (l : List Station) → j + length l ≤ length S.indexes → AreStations S t j l → each station_within l ≡ true
+    all-through : (j : ℕ) (l : List Station) → j + length l ≤ length S.indexes → AreStations S t j l → list_all station_within l ≡ true
         → AllThrough S t gl gh (words_of wire_row) (counts_of wire_row) (table_row S t) pick jl steady j l
     all-through j [] h a w = tt
     all-through j (s ∷ l) h a w =
-        let (x, y) = and_both (station_within s) (each station_within l) w in
+        let (x, y) = and_both (station_within s) (list_all station_within l) w in
         (station-through j s (omega arith) a.0 x, all-through (suc j) l (omega arith) a.1 y)
 
     -- ---- the slot
@@ -289,16 +289,16 @@ module _ (S : Start) (G : GoodStart S) (p : Plain) (t : Table) (R : Same S p t) 
   in_order : (picks : List ℕ)
       → channel_slot_of ch picks
       ≡ cond (eqb (length picks) (length ch.stations))
-      (cond (each (λ (pick : ℕ). between 1 pick (table_counters ch.stations).minislots) picks) (heard_by (heard_row ch) picks) (refused ch 11))
+      (cond (list_all (λ (pick : ℕ). between 1 pick (table_counters ch.stations).minislots) picks) (heard_by (heard_row ch) picks) (refused ch 11))
       (refused ch 17)
   unfolding channel_slot_of channel_slot_number_of
   in_order picks =
       rw (here, sound)
-      (go (eqb (length picks) (length ch.stations)) (each (λ (pick : ℕ). between 1 pick (table_counters ch.stations).minislots) picks)
+      (go (eqb (length picks) (length ch.stations)) (list_all (λ (pick : ℕ). between 1 pick (table_counters ch.stations).minislots) picks)
       (step_one_of (table_counters ch.stations) (feedback_heard ch)).fits (slot_through ch (outcome_heard ch) (slots_heard ch picks))
       ∙ ap (λ (r : ChannelResult).
       cond (eqb (length picks) (length ch.stations))
-      (cond (each (λ (pick : ℕ). between 1 pick (table_counters ch.stations).minislots) picks) r (refused ch 11))
+      (cond (list_all (λ (pick : ℕ). between 1 pick (table_counters ch.stations).minislots) picks) r (refused ch 11))
       (refused ch 17))
       (fits-cond (table_counters ch.stations) (feedback_heard ch) _ _))
     where
@@ -313,7 +313,7 @@ module _ (S : Start) (G : GoodStart S) (p : Plain) (t : Table) (R : Same S p t) 
   slot-call picks =
       subst (Embodied S (table_call S t (Slot picks))) (sym (in_order picks))
       (both S (eqb (length picks) (length S.indexes)) (eqb (length picks) (length ch.stations)) _ _ _ _ (ap (eqb (length picks)) (sym (same_length S t ch E)))
-      (λ a. both S (in_range S.m picks) (each (λ (pick : ℕ). between 1 pick (table_counters ch.stations).minislots) picks) _ _ _ _
+      (λ a. both S (in_range S.m picks) (list_all (λ (pick : ℕ). between 1 pick (table_counters ch.stations).minislots) picks) _ _ _ _
       (rw is-first.minislots (sym (picks-same S.m picks)))
       (λ b. goes picks (eqb-true (length picks) (length S.indexes) a ∙ sym (same_length S t ch E)) b)
       (λ b. stay-put 11))

@@ -77,13 +77,13 @@ module _ {ℓ} {I : Type ℓ} (blank : I) (mix : I → I → I) where
 
     -- two lists with the same entries of every key blend alike
     blend_eq : (K : ℕ) (x : List Sender) (f : ℕ → List Sender) → ((k : ℕ) → K ≤ k → f k ≡ []) → ((k : ℕ) → of_by (λ s. s.position) k x ≡ f k) → blend carry (gather f K) ≡ blend carry x
-    blend_eq K x f outside each =
-        blend-over K (gather f K) (λ k l. each' k ∙ outside k l)
-        ∙ over-cong K _ _ (λ k. ap (blend carry) (each' k ∙ sym (each k)))
-        ∙ sym (blend-over K x (λ k l. each k ∙ outside k l))
+    blend_eq K x f outside list_all =
+        blend-over K (gather f K) (λ k l. list_all' k ∙ outside k l)
+        ∙ over-cong K _ _ (λ k. ap (blend carry) (list_all' k ∙ sym (list_all k)))
+        ∙ sym (blend-over K x (λ k l. list_all k ∙ outside k l))
       where
-        each' : (k : ℕ) → of_by (λ s. s.position) k (gather f K) ≡ f k
-        each' = gather-of (λ s. s.position) f (λ i k. subst (λ (z : List Sender). of_by (λ s. s.position) k z ≡ only_if (eqb i k) z) (each i) (of_by-of_by (λ (s : Sender). s.position) i k x)) K outside
+        list_all' : (k : ℕ) → of_by (λ s. s.position) k (gather f K) ≡ f k
+        list_all' = gather-of (λ s. s.position) f (λ i k. subst (λ (z : List Sender). of_by (λ s. s.position) k z ≡ only_if (eqb i k) z) (list_all i) (of_by-of_by (λ (s : Sender). s.position) i k x)) K outside
 
     place_of : (k : ℕ) (q : List (List Message)) (i : ℕ) → of_by (λ s. s.position) k (map request_from (seen (λ (l : List Message). l) q i)) ≡ map request_from (seen (of k) q i)
     place_of k [] i = refl

@@ -9,7 +9,8 @@ use lib.Dec.{eqb, leb}
 use borrow.Author.Tests.{eqb-true, leb-true}
 use Rattle.rules.specs.declared.Counters.{Counters}
 use Rattle.rules.specs.declared.Station.{Station}
-use Rattle.listlaws.specs.Lists.{gather_of, only_if}
+use Rattle.std.specs.List.{flat_map}
+use Rattle.listlaws.specs.Lists.{only_if}
 use Rattle.rules.specs.Limits.{between}
 use Rattle.rules.specs.declared.Condition.{Condition}
 use Rattle.rules.specs.declared.Condition.TheVariants.{Free, Held, Fresh, Asked, Resolving, Urgent, Long}
@@ -79,7 +80,7 @@ long-parts c f l t e =
     let (some, most) = between-bounds 1 l t q in
     (leb-true 1 f v, some, leb-true (f + l) (c.long + 1) y, omega arith)
 
-long-inside : (c : Counters) (k : Condition) → condition_within c k ≡ true → Inside c.long (gather_of spread (long_stretch k))
+long-inside : (c : Counters) (k : Condition) → condition_within c k ≡ true → Inside c.long (flat_map spread (long_stretch k))
 long-inside c Free e = tt
 long-inside c (Held t) e = tt
 long-inside c (Fresh t) e = tt
@@ -88,15 +89,15 @@ long-inside c (Resolving g i t) e = tt
 long-inside c (Urgent i) e = tt
 long-inside c (Long f l t) e = let (a, b, d, most) = long-parts c f l t e in inside-append c.long (up_from f l) [] (up-inside c.long f l a d) tt
 
-pub longs_inside : (c : Counters) (l : List Station) → AllWithin c l → Inside c.long (gather_of spread (long_stretches (messages_of l)))
+pub longs_inside : (c : Counters) (l : List Station) → AllWithin c l → Inside c.long (flat_map spread (long_stretches (messages_of l)))
 longs_inside c [] w = tt
 longs_inside c (s ∷ l) w =
     rw (
       gather_append spread (long_stretch s.short.condition) (long_stretch s.long.condition ++ long_stretches (messages_of l)),
       gather_append spread (long_stretch s.long.condition) (long_stretches (messages_of l)),
     )
-    (inside-append c.long (gather_of spread (long_stretch s.short.condition)) _ (long-inside c s.short.condition w.0.short)
-    (inside-append c.long (gather_of spread (long_stretch s.long.condition)) (gather_of spread (long_stretches (messages_of l))) (long-inside c s.long.condition w.0.long) (longs_inside c l w.1)))
+    (inside-append c.long (flat_map spread (long_stretch s.short.condition)) _ (long-inside c s.short.condition w.0.short)
+    (inside-append c.long (flat_map spread (long_stretch s.long.condition)) (flat_map spread (long_stretches (messages_of l))) (long-inside c s.long.condition w.0.long) (longs_inside c l w.1)))
 
 left-append : (a b : List Stretch) → AllLeft a → AllLeft b → AllLeft (a ++ b)
 left-append [] b p q = q
@@ -117,7 +118,7 @@ longs_left c (s ∷ l) w =
     left-append (long_stretch s.short.condition) (long_stretch s.long.condition ++ long_stretches (messages_of l)) (long-left c s.short.condition w.0.short)
     (left-append (long_stretch s.long.condition) (long_stretches (messages_of l)) (long-left c s.long.condition w.0.long) (longs_left c l w.1))
 
-long-times : (i : ℕ) (k : Condition) → times i (gather_of spread (long_stretch k)) ≡ cond (covers_long i k) 1 0
+long-times : (i : ℕ) (k : Condition) → times i (flat_map spread (long_stretch k)) ≡ cond (covers_long i k) 1 0
 long-times i Free = refl
 long-times i (Held t) = refl
 long-times i (Fresh t) = refl
@@ -126,15 +127,15 @@ long-times i (Resolving g j t) = refl
 long-times i (Urgent j) = refl
 long-times i (Long f l t) = ap (times i) (append-nil (up_from f l)) ∙ times-spread (record { first = f; left = l }) i
 
-pub longs_times : (i : ℕ) (l : List Station) → times i (gather_of spread (long_stretches (messages_of l))) ≡ how_many (covers_long i) l
+pub longs_times : (i : ℕ) (l : List Station) → times i (flat_map spread (long_stretches (messages_of l))) ≡ how_many (covers_long i) l
 longs_times i [] = refl
 longs_times i (s ∷ l) =
     ap (times i)
     (gather_append spread (long_stretch s.short.condition) (long_stretch s.long.condition ++ long_stretches (messages_of l))
-    ∙ ap (λ (z : List ℕ). gather_of spread (long_stretch s.short.condition) ++ z) (gather_append spread (long_stretch s.long.condition) (long_stretches (messages_of l))))
-    ∙ times-append i (gather_of spread (long_stretch s.short.condition)) _
+    ∙ ap (λ (z : List ℕ). flat_map spread (long_stretch s.short.condition) ++ z) (gather_append spread (long_stretch s.long.condition) (long_stretches (messages_of l))))
+    ∙ times-append i (flat_map spread (long_stretch s.short.condition)) _
     ∙ rw (
-      times-append i (gather_of spread (long_stretch s.long.condition)) (gather_of spread (long_stretches (messages_of l))),
+      times-append i (flat_map spread (long_stretch s.long.condition)) (flat_map spread (long_stretches (messages_of l))),
       long-times i s.short.condition,
       long-times i s.long.condition,
       longs_times i l,

@@ -16,7 +16,8 @@ use Rattle.requests.specs.Together.{silent}
 use Rattle.rules.specs.declared.Counters.{Counters}
 use Rattle.rules.specs.declared.Station.{Station}
 use Rattle.rules.specs.declared.WireRow.{WireRow}
-use Rattle.listlaws.specs.Lists.{each, each_pair, sum_of, gather_of}
+use Rattle.std.specs.List.{list_all, flat_map}
+use Rattle.listlaws.specs.Lists.{each_pair, sum_of}
 use Rattle.listlaws.specs.Every.{every_from}
 use Rattle.rules.specs.Calendars.{free_entry, owner_in}
 use Rattle.rules.specs.StationLimits.{resolution_at, station_within}
@@ -41,12 +42,12 @@ use Rattle.channel_rules.proofs.SoundLists.{AllWithin, urgents_inside, urgents_t
 -- ---- lists of stations, element by element
 
 module _ {A : Type 0} (test : A → Bool) (d : A) where
-  pub all-at : (l : List A) → each test l ≡ true → (k : ℕ) → k < length l → test (get_or l k d) ≡ true
+  pub all-at : (l : List A) → list_all test l ≡ true → (k : ℕ) → k < length l → test (get_or l k d) ≡ true
   all-at [] e k h = absurd (omega arith)
-  all-at (x ∷ l) e zero h = (and_both (test x) (each test l) e).0
-  all-at (x ∷ l) e (suc k) h = all-at l (and_both (test x) (each test l) e).1 k (omega arith)
+  all-at (x ∷ l) e zero h = (and_both (test x) (list_all test l) e).0
+  all-at (x ∷ l) e (suc k) h = all-at l (and_both (test x) (list_all test l) e).1 k (omega arith)
 
-  pub at_all : (l : List A) → ((k : ℕ) → k < length l → test (get_or l k d) ≡ true) → each test l ≡ true
+  pub at_all : (l : List A) → ((k : ℕ) → k < length l → test (get_or l k d) ≡ true) → list_all test l ≡ true
   at_all [] h = refl
   at_all (x ∷ l) h = rw (h zero (omega arith)) (at_all l (λ k w. h (suc k) (omega arith)))
 
@@ -54,8 +55,8 @@ module _ {A : Type 0} (test : A → A → Bool) (d : A) where
   pub pair-at : (l : List A) → each_pair test l ≡ true → (i k : ℕ) → i < k → k < length l → test (get_or l i d) (get_or l k d) ≡ true
   pair-at [] e i k h w = absurd (omega arith)
   pair-at (x ∷ l) e i zero h w = absurd (omega arith)
-  pair-at (x ∷ l) e zero (suc k) h w = all-at (test x) d l (and_both (each (test x) l) (each_pair test l) e).0 k (omega arith)
-  pair-at (x ∷ l) e (suc i) (suc k) h w = pair-at l (and_both (each (test x) l) (each_pair test l) e).1 i k (omega arith) (omega arith)
+  pair-at (x ∷ l) e zero (suc k) h w = all-at (test x) d l (and_both (list_all (test x) l) (each_pair test l) e).0 k (omega arith)
+  pair-at (x ∷ l) e (suc i) (suc k) h w = pair-at l (and_both (list_all (test x) l) (each_pair test l) e).1 i k (omega arith) (omega arith)
 
   pub at_pair : (l : List A) → ((i k : ℕ) → i < k → k < length l → test (get_or l i d) (get_or l k d) ≡ true) → each_pair test l ≡ true
   at_pair [] h = refl
@@ -132,7 +133,7 @@ module _ (stations : List Station) (rows : List WireRow) (e : sound_table statio
   says-long (suc i) lo hi =
       let (x, y) = and_both (eqb (sum_of (λ (s : Stretch). s.left) (long_stretches (messages_of stations))) (table_counters stations).long) (each_pair apart (long_stretches (messages_of stations))) t.long in
       sym (longs_times (suc i) stations)
-      ∙ exactly_one (table_counters stations).long (gather_of spread (long_stretches (messages_of stations))) (longs_inside (table_counters stations) stations all_in)
+      ∙ exactly_one (table_counters stations).long (flat_map spread (long_stretches (messages_of stations))) (longs_inside (table_counters stations) stations all_in)
       (length-spread (long_stretches (messages_of stations)) ∙ eqb-true _ _ x) (apart-once (long_stretches (messages_of stations)) y) i (omega arith)
 
   says-resolution : (g i : ℕ) → 1 ≤ g → g ≤ 8 → 1 ≤ i → i ≤ resolution_at (table_counters stations) g → 2 ≤ how_many_stations (at_resolving g i) stations
@@ -168,7 +169,7 @@ module _ (stations : List Station) (rows : List WireRow) (e : sound_table statio
   says-owners : (i x : ℕ) → i < 24 → owner_in (get_or (table_counters stations).calendar i free_entry) ≡ some x → HasStation stations x
   unfolding owners_sound entries_on
   says-owners i x h o =
-      let (size, all) = and_both (eqb (length (table_counters stations).calendar) 24) (each (entry_on stations) (table_counters stations).calendar) t.owners in
+      let (size, all) = and_both (eqb (length (table_counters stations).calendar) 24) (list_all (entry_on stations) (table_counters stations).calendar) t.owners in
       let l = eqb-true (length (table_counters stations).calendar) 24 size in
       owner-on stations (get_or (table_counters stations).calendar i free_entry) x (all-at (entry_on stations) free_entry (table_counters stations).calendar all i (omega arith)) o
 
@@ -204,7 +205,7 @@ module _ (stations : List Station) (rows : List WireRow) (s : Sound stations row
             (λ i h. urgents_times (suc i) stations ∙ s.urgent (suc i) (omega arith) (omega arith)) in
             rw (eq-eqb (length (urgent_places (messages_of stations))) (table_counters stations).urgent x) (once-pairs (urgent_places (messages_of stations)) y);
         long =
-            let (x, y) = one_each (table_counters stations).long (gather_of spread (long_stretches (messages_of stations))) (longs_inside (table_counters stations) stations in_limits)
+            let (x, y) = one_each (table_counters stations).long (flat_map spread (long_stretches (messages_of stations))) (longs_inside (table_counters stations) stations in_limits)
             (λ i h. longs_times (suc i) stations ∙ s.long (suc i) (omega arith) (omega arith)) in
             rw (eq-eqb (sum_of (λ (z : Stretch). z.left) (long_stretches (messages_of stations))) (table_counters stations).long (sym (length-spread (long_stretches (messages_of stations))) ∙ x))
             (once-apart (long_stretches (messages_of stations)) (longs_left (table_counters stations) stations in_limits) y);

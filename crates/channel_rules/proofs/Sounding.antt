@@ -74,9 +74,9 @@ pub record TableSound (S : Start) (t : Table) : Type 0 where
 
 -- as many records as entries
 census : (K : ℕ) (x : List Sender) (f : ℕ → List Sender) → ((k : ℕ) → K ≤ k → f k ≡ []) → ((k : ℕ) → of_by (λ s. s.position) k x ≡ f k) → length (gather f K) ≡ length x
-census K x f outside each =
-    length-gather (λ (z : Sender). z.position) f (λ i k. subst (λ (z : List Sender). of_by (λ s. s.position) k z ≡ only_if (eqb i k) z) (each i) (of_by-of_by (λ (s : Sender). s.position) i k x)) K outside
-    ∙ sym (length-total (λ s. s.position) K x (λ k l. each k ∙ outside k l) ∙ total-cong K _ _ (λ k. ap length (each k)))
+census K x f outside list_all =
+    length-gather (λ (z : Sender). z.position) f (λ i k. subst (λ (z : List Sender). of_by (λ s. s.position) k z ≡ only_if (eqb i k) z) (list_all i) (of_by-of_by (λ (s : Sender). s.position) i k x)) K outside
+    ∙ sym (length-total (λ s. s.position) K x (λ k l. list_all k ∙ outside k l) ∙ total-cong K _ _ (λ k. ap length (list_all k)))
 
 -- a run, as a test on its ends
 run-map : (x : Sender) (m : Message) (l s i : ℕ) → map (λ (y : Segment). x) (run m l s i) ≡ only_if (ltb i l) (x ∷ [])

@@ -14,7 +14,8 @@ use Rattle.minislot.specs.declared.Minislot.{Minislot}
 use Rattle.requests.specs.Together.{silent, together}
 use Rattle.rules.specs.declared.Station.{Station}
 use Rattle.rules.specs.declared.StartAnswer.TheVariants.{Ready}
-use Rattle.listlaws.specs.Lists.{each, each_pair}
+use Rattle.std.specs.List.{list_all}
+use Rattle.listlaws.specs.Lists.{each_pair}
 use Rattle.rules.specs.Limits.{between}
 use Rattle.rules.specs.Starting.{in_ranges}
 use Rattle.rules.specs.StationCalls.{start_station, is_index}
@@ -36,7 +37,7 @@ start_on m n indexes = record { m = m; n = n; indexes = indexes }
 
 -- what the four tests say
 good : (before : Channel) (m n : ℕ) (indexes : List ℕ) → in_ranges m n ≡ true → (has_stations before.stations && eqb (length indexes) (length before.stations)) ≡ true
-    → each is_index indexes ≡ true → each_pair differ indexes ≡ true → GoodStart (start_on m n indexes)
+    → list_all is_index indexes ≡ true → each_pair differ indexes ≡ true → GoodStart (start_on m n indexes)
 good before m n indexes e5 e14 e8 e15 =
     let (a, b) = and_both (between 2 m 8) (between 1 n 8) e5 in
     let (c, d) = and_both (has_stations before.stations) (eqb (length indexes) (length before.stations)) e14 in
@@ -69,7 +70,7 @@ started before m n indexes e =
     (λ k q. let z : ◌≡◌ {A = ℕ} 0 1 = cc in absurd (omega arith)) e in
     let (e5, after5) = test_passed (in_ranges m n) 5 _ refl none in
     let (e14, after14) = test_passed (has_stations before.stations && eqb (length indexes) (length before.stations)) 14 _ refl after5 in
-    let (e8, after8) = test_passed (each is_index indexes) 8 _ refl after14 in
+    let (e8, after8) = test_passed (list_all is_index indexes) 8 _ refl after14 in
     let (e15, _) = test_passed (each_pair differ indexes) 15 _ refl after8 in
     (good before m n indexes e5 e14 e8 e15, rw (e5, e14, e8, e15))
 

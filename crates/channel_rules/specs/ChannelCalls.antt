@@ -15,7 +15,8 @@ use Rattle.rules.specs.declared.SlotAnswer.TheVariants.{Went as WentSlot, Refuse
 use Rattle.rules.specs.declared.StartAnswer.{StartAnswer}
 use Rattle.rules.specs.declared.StartAnswer.TheVariants.{Ready, Refused as RefusedStart}
 use Rattle.rules.specs.declared.WireRow.{WireRow}
-use Rattle.listlaws.specs.Lists.{each, each_pair, only_if, gather_of}
+use Rattle.std.specs.List.{list_all, flat_map}
+use Rattle.listlaws.specs.Lists.{each_pair, only_if}
 use Rattle.rules.specs.Calendars.{some_free}
 use Rattle.rules.specs.Limits.{between}
 use Rattle.rules.specs.Starting.{in_ranges}
@@ -74,7 +75,7 @@ unfoldable pub channel_start_number_of : ℕ → ℕ → ℕ → List ℕ → �
 channel_start_number_of count m n indexes =
     unless (in_ranges m n) 5
     (unless (between 1 count 64 && eqb (length indexes) count) 14
-    (unless (each is_index indexes) 8
+    (unless (list_all is_index indexes) 8
     (unless (each_pair differ indexes) 15
     0)))
 
@@ -150,7 +151,7 @@ request_in j r (WentSlot turn minislot segment) =
 request_in j r (RefusedSlot n) = []
 
 abbrev pub requests_in : ℕ → List StationSlot → List Request
-requests_in j results = gather_of (λ (r : StationSlot). request_in j r r.answer) results
+requests_in j results = flat_map (λ (r : StationSlot). request_in j r r.answer) results
 
 -- the group's new row: minislots j, j + 1, .., n of them
 abbrev pub new_row : List StationSlot → ℕ → ℕ → List Minislot
@@ -176,7 +177,7 @@ data_in r (WentSlot turn minislot segment) =
 data_in r (RefusedSlot n) = []
 
 abbrev pub data_sent : List StationSlot → List DataSent
-data_sent results = gather_of (λ (r : StationSlot). data_in r r.answer) results
+data_sent results = flat_map (λ (r : StationSlot). data_in r r.answer) results
 
 -- index and segment of a lone sender, 0 and 0 if there isn't just one
 abbrev pub lone_index : List DataSent → ℕ
@@ -235,7 +236,7 @@ channel_slot_number_of ch picks =
     unless (has_stations ch.stations) 14
     (unless (sound_table ch.stations ch.wire) 18
     (unless (eqb (length picks) (length ch.stations)) 17
-    (unless (each (λ (pick : ℕ). between 1 pick (table_counters ch.stations).minislots) picks) 11
+    (unless (list_all (λ (pick : ℕ). between 1 pick (table_counters ch.stations).minislots) picks) 11
     (unless (step_one_of (table_counters ch.stations) (feedback_heard ch)).fits 7
     0))))
 

@@ -8,7 +8,8 @@ use Rattle.requests.specs.Together.{Request, carries, together}
 use Rattle.rules.specs.declared.Counters.{Counters}
 use Rattle.rules.specs.declared.Station.{Station}
 use Rattle.rules.specs.declared.WireRow.{WireRow}
-use Rattle.listlaws.specs.Lists.{each, each_pair, only_if, gather_of}
+use Rattle.std.specs.List.{list_all, flat_map}
+use Rattle.listlaws.specs.Lists.{each_pair, only_if}
 use Rattle.listlaws.specs.Every.{every_from}
 use Rattle.stretches.specs.declared.Stretch.{Stretch}
 use Rattle.places.specs.Places.{taken_once}
@@ -32,7 +33,7 @@ messages_in s =
     record { index = s.index; condition = s.short.condition } ∷ record { index = s.index; condition = s.long.condition } ∷ []
 
 abbrev pub messages_of : List Station → List TableMessage
-messages_of stations = gather_of messages_in stations
+messages_of stations = flat_map messages_in stations
 
 -- ---- indexes are distinct
 
@@ -45,7 +46,7 @@ indexes_distinct stations = each_pair other_index stations
 -- ---- every record is within its limits
 
 unfoldable pub records_within : List Station → Bool
-records_within stations = each station_within stations
+records_within stations = list_all station_within stations
 
 -- ---- all stations share m, n, next group, counters, Open marks, calendar and position
 
@@ -69,7 +70,7 @@ same_counters a b =
     && same_numbers a.calendar b.calendar && eqb a.position b.position
 
 unfoldable pub counters_shared : List Station → Bool
-counters_shared stations = each (λ (s : Station). same_counters (table_counters stations) s.counters) stations
+counters_shared stations = list_all (λ (s : Station). same_counters (table_counters stations) s.counters) stations
 
 -- ---- each H place has exactly one message
 
@@ -83,7 +84,7 @@ urgent_place (Urgent i) = i ∷ []
 urgent_place (Long f l t) = []
 
 abbrev pub urgent_places : List TableMessage → List ℕ
-urgent_places messages = gather_of (λ (m : TableMessage). urgent_place m.condition) messages
+urgent_places messages = flat_map (λ (m : TableMessage). urgent_place m.condition) messages
 
 unfoldable pub urgent_sound : List Station → Bool
 urgent_sound stations = taken_once (urgent_places (messages_of stations)) (table_counters stations).urgent
@@ -100,7 +101,7 @@ long_stretch (Urgent i) = []
 long_stretch (Long f l t) = record { first = f; left = l } ∷ []
 
 abbrev pub long_stretches : List TableMessage → List Stretch
-long_stretches messages = gather_of (λ (m : TableMessage). long_stretch m.condition) messages
+long_stretches messages = flat_map (λ (m : TableMessage). long_stretch m.condition) messages
 
 unfoldable pub long_sound : List Station → Bool
 long_sound stations = covered (long_stretches (messages_of stations)) (table_counters stations).long
@@ -117,7 +118,7 @@ resolving_place g (Urgent i) = []
 resolving_place g (Long f l t) = []
 
 abbrev pub resolving_places : ℕ → List TableMessage → List ℕ
-resolving_places g messages = gather_of (λ (m : TableMessage). resolving_place g m.condition) messages
+resolving_places g messages = flat_map (λ (m : TableMessage). resolving_place g m.condition) messages
 
 -- group g's resolution queue, of r places
 abbrev pub resolution_sound_at : List Station → ℕ → ℕ → Bool
@@ -139,7 +140,7 @@ asked_request g j index (Urgent i) = []
 asked_request g j index (Long f l t) = []
 
 abbrev pub asked_requests : ℕ → ℕ → List TableMessage → List Request
-asked_requests g j messages = gather_of (λ (m : TableMessage). asked_request g j m.index m.condition) messages
+asked_requests g j messages = flat_map (λ (m : TableMessage). asked_request g j m.index m.condition) messages
 
 unfoldable pub asked_minislot : List Station → ℕ → ℕ → Minislot
 asked_minislot stations g j = together (map carries (asked_requests g j (messages_of stations)))
@@ -170,7 +171,7 @@ abbrev pub entry_on : List Station → ℕ → Bool
 entry_on stations x = eqb x free_entry || is_on_table stations x
 
 unfoldable pub entries_on : List Station → List ℕ → Bool
-entries_on stations entries = eqb (length entries) positions && each (entry_on stations) entries
+entries_on stations entries = eqb (length entries) positions && list_all (entry_on stations) entries
 
 unfoldable pub owners_sound : List Station → Bool
 owners_sound stations = entries_on stations (table_counters stations).calendar

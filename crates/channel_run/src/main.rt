@@ -21,21 +21,17 @@
 mod coming;
 mod lines;
 
-ghost use Rattle.std.specs.Prelude.{◌≡◌, length};
-
 use coming::coming;
 use lines::{owned_lines, table_lines};
 use local_channel::LocalChannel;
 use rehearsing::blank;
-use rules::Counters;
-use runs_cases::{Group, counts, group_at, line_end, number, number8, number16, which};
+use rules::{Counters, Writing};
+use runs_cases::{Group, split_group, whole, word};
 use runs_files::read_full;
 use runs_records::{
     answer_line, counters_at, counters_of, entries_of, start_line, station_of, writing,
 };
-use runs_tables::{
-    begun, calendared, least, slotted, with_count, with_minislot, with_station, written,
-};
+use runs_tables::{begun, calendared, slotted, with_count, with_minislot, with_station, written};
 use runs_text::text;
 use std::io;
 
@@ -50,205 +46,178 @@ struct State {
     picks: Group,
 }
 
+// A call on the table.
+#[derive(Clone, Copy)]
+enum Call {
+    Start,
+    Write(Writing),
+    Slot,
+    Calendar,
+}
+
+// The index of a writing's station stands first.
+fn call_of(line: &[u8], head: &Group) -> Option<Call> {
+    match word(line) {
+        b"start" => Some(Call::Start),
+        b"slot" => Some(Call::Slot),
+        b"calendar" => Some(Call::Calendar),
+        other => writing(other, head.number(2)).map(Call::Write),
+    }
+}
+
 // ---- the calls
 
 // 65 indexes: those of a group, and from there on each one more than the one before.
-fn indexes_of(g: Group) -> [u16; 65]
-    ensures { length result ≡ 65 }
-{
-    let mut indexes = [0u16; 65];
-    let mut index: u16 = 0;
-    let mut k: usize = 0;
-    while k < 65 {
-        index = if k < g.count {
-            number16(g, k + 1)
+fn indexes_of(g: &Group) -> [u16; 65] {
+    let mut indexes = [0; 65];
+    let mut index = 0;
+    for (k, place) in indexes.iter_mut().enumerate() {
+        index = if k < g.commas {
+            g.number16(k + 1)
         } else {
             index % 2000 + 1
         };
-        indexes[k] = index;
-        k += 1;
+        *place = index;
     }
     indexes
 }
 
 // The third number is how many of the indexes are lent.
-fn start(rt: &impl Print, c: LocalChannel, head: Group, given: Group) -> io::Result<LocalChannel> {
-    let indexes = indexes_of(given);
-    let end = least(number(head, 3) as usize, 65);
-    let r = begun(c, number8(head, 1), number8(head, 2), &indexes[0..end]);
-    let answer = r.answer;
-    start_line(rt, answer)?;
+fn start(rt: &impl Print, s: &State, head: &Group) -> io::Result<LocalChannel> {
+    let indexes = indexes_of(&s.indexes);
+    let end = (head.number(3) as usize).min(65);
+    let r = begun(s.last, head.number8(1), head.number8(2), &indexes[..end]);
+    start_line(rt, r.answer)?;
     Ok(r.channel)
 }
 
-// A call that writes a message record, by its number: 1 an offer, 2 a hold, 3 a commit, 4 a withdrawal.
-fn write(rt: &impl Print, c: LocalChannel, call: u64, head: Group) -> io::Result<LocalChannel> {
-    let r = written(c, number16(head, 1), writing(call, number(head, 2)));
-    let answer = r.answer;
-    answer_line(rt, answer)?;
+fn write(rt: &impl Print, c: LocalChannel, index: u16, w: Writing) -> io::Result<LocalChannel> {
+    let r = written(c, index, w);
+    answer_line(rt, r.answer)?;
     Ok(r.channel)
 }
 
 // The number is how many of the picks are lent.
-fn slot(rt: &impl Print, c: LocalChannel, head: Group, given: Group) -> io::Result<LocalChannel> {
-    let picks = counts(given, 1, 1);
-    let end = least(number(head, 1) as usize, 24);
-    let r = slotted(c, &picks[0..end]);
-    let answer = r.answer;
-    answer_line(rt, answer)?;
+fn slot(rt: &impl Print, s: &State, head: &Group) -> io::Result<LocalChannel> {
+    let picks = s.picks.counts(1, 1);
+    let end = (head.number(1) as usize).min(24);
+    let r = slotted(s.last, &picks[..end]);
+    answer_line(rt, r.answer)?;
     Ok(r.channel)
 }
 
-fn calendar(rt: &impl Print, c: LocalChannel, head: Group) -> io::Result<LocalChannel> {
+fn calendar(rt: &impl Print, c: LocalChannel, head: &Group) -> io::Result<LocalChannel> {
     let r = calendared(c, entries_of(head));
-    let answer = r.answer;
-    answer_line(rt, answer)?;
+    answer_line(rt, r.answer)?;
     Ok(r.channel)
 }
 
-// The table after a call: 1 a start, 2 an offer, 3 a slot, 4 a calendar, 5 a hold, 6 a commit, 7 a withdrawal.
-fn called(rt: &impl Print, s: State, call: u64, head: Group) -> io::Result<LocalChannel> {
-    let c = s.last;
-    let indexes = s.indexes;
-    let picks = s.picks;
+// The table after a call.
+fn called(rt: &impl Print, s: &State, call: Call, head: &Group) -> io::Result<LocalChannel> {
     match call {
-        1 => start(rt, c, head, indexes),
-        2 => write(rt, c, 1, head),
-        3 => slot(rt, c, head, picks),
-        4 => calendar(rt, c, head),
-        5 => write(rt, c, 2, head),
-        6 => write(rt, c, 3, head),
-        _ => write(rt, c, 4, head),
+        Call::Start => start(rt, s, head),
+        Call::Write(w) => write(rt, s.last, head.number16(1), w),
+        Call::Slot => slot(rt, s, head),
+        Call::Calendar => calendar(rt, s.last, head),
     }
 }
 
 // ---- the cases
 
-// What is left after a line that gives something to the lines after it: 1 counters, 2 their position and calendar, 3 or 4 indexes, 5
-// picks.
-fn given(s: State, word: u64, line: &[u8], head: Group) -> State {
-    let mut s = s;
-    let c = s.counters;
-    match word {
-        1 => s.counters = counters_of(head),
-        2 => s.counters = counters_at(c, line, head),
-        5 => s.picks = head,
-        _ => s.indexes = head,
-    }
-    s
-}
-
-// The table after a line that alters it: 6 so many records, 7 another number of them, 8 a station, 9 a minislot.
-fn altered(
-    c: LocalChannel,
-    counters: Counters,
-    word: u64,
-    line: &[u8],
-    head: Group,
-) -> LocalChannel {
-    let place = number(head, 1) as usize;
-    match word {
-        6 => blank(place),
-        7 => with_count(c, place),
-        8 => {
-            let s = station_of(counters, number16(head, 2), line, head.next);
-            with_station(c, place, s)
-        }
-        _ => {
-            let j = number(head, 2) as usize;
-            with_minislot(c, place, j, number16(head, 3), number8(head, 4))
-        }
-    }
-}
-
-// What is left after a line from 10 on: the table kept, the one that was kept, the table written, or its calendars.
-fn after(rt: &impl Print, s: State, word: u64) -> io::Result<State> {
-    let mut s = s;
-    let last = s.last;
-    let kept = s.kept;
-    match word {
-        10 => s.kept = last,
-        11 => s.last = kept,
-        12 => table_lines(rt, last)?,
-        _ => owned_lines(rt, last)?,
-    }
-    Ok(s)
-}
-
-// A call: its line, the answer and the table after, or, of the eighth, the list.
-fn call(rt: &impl Print, s: State, line: &[u8], kind: u64, head: Group) -> io::Result<State> {
-    let mut s = s;
+fn call_line(rt: &impl Print, line: &[u8]) -> io::Result<()> {
     text(rt, line)?;
-    text(rt, b"\n")?;
-    if kind == 8 {
-        let last = s.last;
-        coming(rt, last, number(head, 1) as usize)?;
-        return Ok(s);
+    text(rt, b"\n")
+}
+
+// A call: its line, the answer and the table after.
+fn make(rt: &impl Print, s: State, line: &[u8], call: Call, head: &Group) -> io::Result<State> {
+    call_line(rt, line)?;
+    let last = called(rt, &s, call, head)?;
+    table_lines(rt, &last)?;
+    Ok(State { last, ..s })
+}
+
+// The table after a line that alters it.
+fn altered(s: &State, word: &[u8], head: &Group, rest: &[u8]) -> LocalChannel {
+    let place = head.number(1) as usize;
+    match word {
+        b"blank" => blank(place),
+        b"count" => with_count(s.last, place),
+        b"station" => {
+            let station = station_of(s.counters, head.number16(2), rest);
+            with_station(s.last, place, station)
+        }
+        b"minislot" => {
+            let j = head.number(2) as usize;
+            with_minislot(s.last, place, j, head.number16(3), head.number8(4))
+        }
+        b"again" => s.kept,
+        _ => s.last,
     }
-    let c = called(rt, s, kind, head)?;
-    table_lines(rt, c)?;
-    s.last = c;
-    Ok(s)
+}
+
+// What is left after a line that writes nothing: it gives something to the lines after it, keeps the table, or alters it. A note leaves all
+// as it was.
+fn set(s: State, line: &[u8], head: &Group, rest: &[u8]) -> State {
+    match word(line) {
+        b"counters" => State {
+            counters: counters_of(head),
+            ..s
+        },
+        b"position" => State {
+            counters: counters_at(s.counters, head, rest),
+            ..s
+        },
+        b"from" | b"indexes" => State {
+            indexes: *head,
+            ..s
+        },
+        b"picks" => State { picks: *head, ..s },
+        b"keep" => State { kept: s.last, ..s },
+        other => State {
+            last: altered(&s, other, head, rest),
+            ..s
+        },
+    }
 }
 
 // One line.
 fn case(rt: &impl Print, s: State, line: &[u8]) -> io::Result<State> {
-    let mut s = s;
-    let head = group_at(line, 0);
-    let kind = which(
-        line,
-        0,
-        b"start offer slot calendar hold commit withdraw coming ",
-    );
-    if kind != 0 {
-        return call(rt, s, line, kind, head);
+    let (head, rest) = split_group(line);
+    if let Some(call) = call_of(line, &head) {
+        return make(rt, s, line, call, &head);
     }
-    let word = which(
-        line,
-        0,
-        b"counters position from indexes picks blank count station minislot keep again table show ",
-    );
-    if word == 0 {
-        return Ok(s);
+    match word(line) {
+        b"coming" => {
+            call_line(rt, line)?;
+            coming(rt, s.last, head.number(1) as usize)?;
+            Ok(s)
+        }
+        b"table" => {
+            table_lines(rt, &s.last)?;
+            Ok(s)
+        }
+        b"show" => {
+            owned_lines(rt, &s.last)?;
+            Ok(s)
+        }
+        _ => Ok(set(s, line, &head, rest)),
     }
-    if word < 6 {
-        return Ok(given(s, word, line, head));
-    }
-    if word < 10 {
-        let last = s.last;
-        let counters = s.counters;
-        s.last = altered(last, counters, word, line, head);
-        return Ok(s);
-    }
-    after(rt, s, word)
-}
-
-fn cases(rt: &impl Print, bytes: &[u8], s: State) -> io::Result<()> {
-    let mut s = s;
-    let mut at: usize = 0;
-    while at < bytes.len() {
-        let end = line_end(bytes, at);
-        s = case(rt, s, &bytes[at..end])?;
-        at = end + 1;
-    }
-    Ok(())
 }
 
 fn main(rt: HostRuntime) -> io::Result<()> {
     let mut space = [0u8; 65536];
     let n = read_full(&mut rt.reader(), &mut space)?;
-    let none = group_at(b"", 0);
-    let counters = counters_of(none);
-    let c = blank(0);
-    cases(
-        &rt,
-        &space[..n],
-        State {
-            last: c,
-            kept: c,
-            counters,
-            indexes: none,
-            picks: none,
-        },
-    )
+    let none = whole(b"");
+    let mut s = State {
+        last: blank(0),
+        kept: blank(0),
+        counters: counters_of(&none),
+        indexes: none,
+        picks: none,
+    };
+    for line in space[..n].split(|byte| *byte == b'\n') {
+        s = case(&rt, s, line)?;
+    }
+    Ok(())
 }

@@ -1,16 +1,11 @@
 -- How many coming slots are asked about (paper 02, T-07), by the parts between a record's commas. A number that its parameter can't hold
 -- (above 65,535), or more than one number, breaks the record, as a part that is no number does: it is answered 19. Assumes nothing.
-use Rattle.std.specs.Prelude.{cond, List, [], ◌∷◌, ℕ}
+use Rattle.std.specs.Prelude.{cond, Option, Some, None, List, [], ◌∷◌, ℕ}
 use Rattle.fields.specs.Fields.{numeral}
 use Rattle.number_lists.specs.NumberList.{is_number}
-use Rattle.coming_fields.specs.declared.ComingFields.{ComingFields}
-
--- a record that is answered 19
-abbrev pub broken_coming : ComingFields
-broken_coming = record { number = 19; w = 0 }
 
 -- THE SLOTS ASKED ABOUT: one part
-unfoldable pub coming_in : List (List ℕ) → ComingFields
-coming_in [] = broken_coming
-coming_in (p ∷ []) = cond (is_number 65535 p) (record { number = 0; w = numeral p }) broken_coming
-coming_in (p ∷ q ∷ ps) = broken_coming
+unfoldable pub coming_in : List (List ℕ) → Option ℕ
+coming_in [] = None
+coming_in (p ∷ []) = cond (is_number 65535 p) (Some (numeral p)) None
+coming_in (p ∷ q ∷ ps) = None

@@ -17,23 +17,18 @@ const ROOM: usize = 1025;
 pub fn entries_for(w: usize) -> usize
     ensures { result ≡ min w 1025 }
 {
-    if w < ROOM {
-        return w;
-    }
-    ROOM
+    w.min(ROOM)
 }
 
 // The numbers of the line: the call, the slots until both transmission queues are empty, and the room's entries.
 fn coming_values(call: u64, slots: u32, list: [u16; 1025]) -> [u64; 1027]
     ensures { result ≡ call ∷ slots ∷ list }
 {
-    let mut values = [0u64; 1027];
+    let mut values = [0; 1027];
     values[0] = call;
     values[1] = slots as u64;
-    let mut i: usize = 0;
-    while i < ROOM {
-        values[i + 2] = list[i] as u64;
-        i += 1;
+    for (i, entry) in list.iter().enumerate() {
+        values[i + 2] = *entry as u64;
     }
     values
 }
@@ -63,9 +58,6 @@ pub fn put_coming(
 {
     match answer {
         ComingAnswer::Until(slots) => put_until(out, at, call, slots, list, w),
-        ComingAnswer::Refused(number) => {
-            let values = [call, number as u64];
-            put_form(out, at, b"#,refused", &values)
-        }
+        ComingAnswer::Refused(number) => put_form(out, at, b"#,refused", &[call, number as u64]),
     }
 }

@@ -72,9 +72,9 @@ module _ (calendar : List ℕ) (position : ℕ) (served : ℕ → ℕ) where
   pub listed-all : (list₀ list : List ℕ) (p place i : ℕ) → Listed list₀ list p place i → length list ≤ i → list ≡ planned_list calendar position served (length list₀)
   unfolding planned_list
   listed-all list₀ list p place i l h =
-      each list (planned_at calendar position served) (λ j w. l.senders j (omega (arith, w, h)))
+      list_all list (planned_at calendar position served) (λ j w. l.senders j (omega (arith, w, h)))
       ∙ ap (λ (n : ℕ). tabulate n (planned_at calendar position served)) l.same
     where
-      each : (list : List ℕ) (f : ℕ → ℕ) → ((j : ℕ) → j < length list → get_or list j 0 ≡ f j) → list ≡ tabulate (length list) f
-      each [] f g = refl
-      each (x ∷ list) f g = rw (g 0 (omega arith), ← each list (λ j. f (suc j)) (λ j w. g (suc j) (omega arith)))
+      list_all : (list : List ℕ) (f : ℕ → ℕ) → ((j : ℕ) → j < length list → get_or list j 0 ≡ f j) → list ≡ tabulate (length list) f
+      list_all [] f g = refl
+      list_all (x ∷ list) f g = rw (g 0 (omega arith), ← list_all list (λ j. f (suc j)) (λ j w. g (suc j) (omega arith)))

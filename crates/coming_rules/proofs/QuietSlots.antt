@@ -15,7 +15,7 @@ use Rattle.minislot.specs.declared.Feedback.TheVariants.{Empty}
 use Rattle.minislot.specs.Reading.{reading_of}
 use Rattle.rows.specs.Row.{readings, feedbacks}
 use Rattle.requests.specs.Together.{silent, together}
-use Rattle.listlaws.specs.Lists.{each}
+use Rattle.std.specs.List.{list_all}
 use Rattle.rules.specs.declared.Counters.{Counters}
 use Rattle.rules.specs.declared.Places.{Places}
 use Rattle.rules.specs.declared.Outcome.{Outcome}
@@ -155,13 +155,13 @@ step-calm o s pick a b =
 -- ---- all stations' slots, and what they make
 
 module _ (o : Outcome) (words counts : List ℕ) (m : ℕ) where
-  slots-calm : (l : List Station) (picks : List ℕ) → length picks ≡ length l → each (λ (pick : ℕ). between 1 pick m) picks ≡ true → AllCalm l
+  slots-calm : (l : List Station) (picks : List ℕ) → length picks ≡ length l → list_all (λ (pick : ℕ). between 1 pick m) picks ≡ true → AllCalm l
       → ((k : ℕ) → k < length l → (pick : ℕ) → between 1 pick m ≡ true → slot_of (station_at l k) words counts pick ≡ step_of o (station_at l k) pick)
       → slots_of words counts l picks ≡ map (calm_step o) l
   slots-calm [] picks e w calm goes = refl
   slots-calm (s ∷ l) [] e w calm goes = absurd (omega arith)
   slots-calm (s ∷ l) (pick ∷ picks) e w calm goes =
-      let (here, rest) = and_both (between 1 pick m) (each (λ (pick : ℕ). between 1 pick m) picks) w in
+      let (here, rest) = and_both (between 1 pick m) (list_all (λ (pick : ℕ). between 1 pick m) picks) w in
       rw (goes zero (omega arith) pick here, step-calm o s pick calm.0 calm.1, slots-calm l picks (omega arith) rest calm.2 (λ k h. goes (suc k) (omega arith)))
 
 module _ (o : Outcome) where

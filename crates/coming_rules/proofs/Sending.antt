@@ -9,7 +9,8 @@ use native.Mathlib.Omega.{arith}
 use lib.Dec.{eqb, leb, ltb}
 use lib.ListN.{length, replicate, length-map, length-replicate}
 use borrow.Author.Tests.{le-leb, lt-ltb, lt-leb, eq-eqb, ne_eqb, eqb-true, eqb-false, ltb-true, ltb-false}
-use Rattle.listlaws.specs.Lists.{each, only_if}
+use Rattle.std.specs.List.{list_all}
+use Rattle.listlaws.specs.Lists.{only_if}
 use Rattle.rules.specs.declared.Counters.{Counters}
 use Rattle.rules.specs.declared.Outcome.{Outcome}
 use Rattle.rules.specs.declared.Station.{Station}
@@ -217,7 +218,7 @@ module _ (ch : Channel) (q : Quiet ch) (free : owner_of (table_counters ch.stati
   free-alone = omega (arith, few, length-map (data_sent (map (calm_step (outcome_heard ch)) ch.stations)) (λ (x : DataSent). x.index))
 
 -- one pick a station, each of 1
-pub ones-within : (m n : ℕ) → 1 ≤ m → each (λ (pick : ℕ). between 1 pick m) (replicate n 1) ≡ true
+pub ones-within : (m n : ℕ) → 1 ≤ m → list_all (λ (pick : ℕ). between 1 pick m) (replicate n 1) ≡ true
 ones-within m zero h = refl
 ones-within m (suc n) h = rw (le-leb 1 m h) (ones-within m n h)
 

@@ -2,7 +2,7 @@
 -- table is sound, one that no start leads to too. Assumes nothing.
 use Rattle.std.specs.Prelude.{◌≡◌, true, List, [], ◌∷◌, map, ◌≢◌, ℕ, ◌≤◌, ◌<◌, length}
 use Rattle.std.proofs.Math.Option.{some}
-use Rattle.listlaws.specs.Lists.{each}
+use Rattle.std.specs.List.{list_all}
 use Rattle.rules.specs.declared.Turn.{Turn}
 use Rattle.rules.specs.declared.Answer.TheVariants.{Went}
 use Rattle.rules.specs.Calls.{Slot}
@@ -16,7 +16,7 @@ use Rattle.coming_rules.specs.Coming.{slots_on, quiet_after, places_in, coming_u
 -- picks that a slot of the channel takes: one a station, each of 1 to m
 pub record Picks (ch : Channel) (picks : List ℕ) : Type 0 where
   pub all : length picks ≡ length ch.stations
-  pub within : each (λ (pick : ℕ). between 1 pick (table_counters ch.stations).minislots) picks ≡ true
+  pub within : list_all (λ (pick : ℕ). between 1 pick (table_counters ch.stations).minislots) picks ≡ true
 
 -- of each slot of a list
 abbrev pub AllPicks : Channel → List (List ℕ) → Type 0

@@ -2,7 +2,8 @@
 -- the slots that no stream owns serve the places of H, one after the other, and then those of N; an owned slot is its owner's and
 -- serves none. That this is the run of Coming: proofs/Planning. Assumes nothing.
 use Rattle.std.specs.Prelude.{Bool, false, ◌&&◌, cond, List, [], ◌∷◌, ◌++◌, ℕ, zero, suc, ◌+◌, ◌-◌, ◌*◌, ◌/◌, ◌%◌, eqb, leb, ltb, length, get_or}
-use Rattle.listlaws.specs.Lists.{only_if, gather_of, tabulate}
+use Rattle.std.specs.List.{flat_map}
+use Rattle.listlaws.specs.Lists.{only_if, tabulate}
 use Rattle.rules.specs.declared.Station.{Station}
 use Rattle.rules.specs.declared.TableMessage.{TableMessage}
 use Rattle.rules.specs.declared.Condition.{Condition}
@@ -26,7 +27,7 @@ has_place h k (Long f l t) = leb (h + (f - 1)) k && ltb k (h + (f - 1) + l)
 -- the indexes of the stations that have it
 abbrev pub holders_of : ℕ → ℕ → List Station → List ℕ
 holders_of h k stations =
-    gather_of (λ (m : TableMessage). only_if (has_place h k m.condition) (m.index ∷ [])) (messages_of stations)
+    flat_map (λ (m : TableMessage). only_if (has_place h k m.condition) (m.index ∷ [])) (messages_of stations)
 
 -- the first of a list, nobody if there is none
 abbrev pub first_of : List ℕ → ℕ

@@ -10,17 +10,24 @@ use counters::resolution_of;
 use rules::{Condition, Counters};
 
 // Whether a condition is within its limits, by the counters that its station keeps.
+#[tactic(auto, unfolding(rules::specs::StationLimits::condition_within))]
 pub fn condition_within(c: Counters, k: Condition) -> bool
     ensures { result ≡ condition_within c k }
 {
     match k {
         Condition::Free => true,
-        Condition::Fresh { total } => 1 <= total,
+        Condition::Fresh { total } | Condition::Held { total } => 1 <= total,
         Condition::Asked {
             group,
             minislot,
             total,
-        } => grouped_within(c.groups, group, c.minislots as u16, minislot as u16, total),
+        } => grouped_within(
+            c.groups,
+            group,
+            u16::from(c.minislots),
+            u16::from(minislot),
+            total,
+        ),
         Condition::Resolving {
             group,
             place,
@@ -28,7 +35,6 @@ pub fn condition_within(c: Counters, k: Condition) -> bool
         } => grouped_within(c.groups, group, resolution_of(c, group), place, total),
         Condition::Urgent { place } => urgent_within(c.urgent, place),
         Condition::Long { first, left, total } => stretch_within(c.long, first, left, total),
-        Condition::Held { total } => 1 <= total,
     }
 }
 
@@ -36,44 +42,20 @@ pub fn condition_within(c: Counters, k: Condition) -> bool
 fn grouped_within(groups: u8, group: u8, places: u16, place: u16, total: u8) -> bool
     ensures { result ≡ between 1 group groups && between 1 place places && is_total total }
 {
-    if group < 1 {
-        return false;
-    }
-    if groups < group {
-        return false;
-    }
-    if place < 1 {
-        return false;
-    }
-    if places < place {
-        return false;
-    }
-    1 <= total
+    (1..=groups).contains(&group) && (1..=places).contains(&place) && 1 <= total
 }
 
 fn urgent_within(places: u16, place: u16) -> bool
     ensures { result ≡ between 1 place places }
 {
-    if place < 1 {
-        return false;
-    }
-    place <= places
+    (1..=places).contains(&place)
 }
 
 fn stretch_within(places: u16, first: u16, left: u8, total: u8) -> bool
     ensures { result ≡ between 2 total 255 && between 1 left total && leb 1 first && leb (first + left) (places + 1) }
 {
-    if total < 2 {
-        return false;
-    }
-    if left < 1 {
-        return false;
-    }
-    if total < left {
-        return false;
-    }
-    if first < 1 {
-        return false;
-    }
-    (first as u32) + (left as u32) <= (places as u32) + 1
+    2 <= total
+        && (1..=total).contains(&left)
+        && 1 <= first
+        && u32::from(first) + u32::from(left) <= u32::from(places) + 1
 }

@@ -25,51 +25,35 @@ pub fn is_index(i: u16) -> bool
 pub fn no_station() -> Station
     ensures { result ≡ no_station }
 {
+    let none = MessageRecord {
+        condition: Condition::Free,
+    };
     Station {
         counters: counters::none(),
         index: 0,
-        short: MessageRecord {
-            condition: Condition::Free,
-        },
-        long: MessageRecord {
-            condition: Condition::Free,
-        },
+        short: none,
+        long: none,
     }
 }
 
 // Whether a station's record is within its limits.
+#[tactic(auto, unfolding(rules::specs::StationLimits::station_within))]
 pub fn within(s: Station) -> bool
     ensures { result ≡ station_within s }
 {
-    let c = s.counters;
-    let a = s.short;
-    let b = s.long;
-    let short = a.condition;
-    let long = b.condition;
-    if counter_limits::within(c) {
-        if is_index(s.index) {
-            return messages_within(c, short, long);
-        }
-        return false;
-    }
-    false
+    counter_limits::within(s.counters)
+        && is_index(s.index)
+        && messages_within(s.counters, s.short.condition, s.long.condition)
 }
 
 // Whether the conditions of a station's two records are within their limits, by the counters that it keeps.
+#[tactic(auto, unfolding(rules::specs::StationLimits::messages_within))]
 pub fn messages_within(c: Counters, short: Condition, long: Condition) -> bool
     ensures { result ≡ messages_within c short long }
 {
-    if !condition_within(c, short) {
-        return false;
-    }
-    if !short_within(short) {
-        return false;
-    }
-    if !condition_within(c, long) {
-        return false;
-    }
-    if !long_within(long) {
-        return false;
-    }
-    records_apart(short, long)
+    condition_within(c, short)
+        && short_within(short)
+        && condition_within(c, long)
+        && long_within(long)
+        && records_apart(short, long)
 }

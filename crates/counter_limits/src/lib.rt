@@ -16,63 +16,50 @@ const URGENT_LIMIT: u16 = 4095;
 const RESOLUTION_LIMIT: u16 = 4095;
 
 // Whether a record of counters is within its limits.
+#[tactic(auto, unfolding(rules::specs::Limits::within_limits))]
 pub fn within(c: Counters) -> bool
     ensures { result ≡ within_limits c }
 {
-    if in_ranges(c.minislots, c.groups) {
-        if counts_within(c) {
-            return calendar_within(c);
-        }
-    }
-    false
+    in_ranges(c.minislots, c.groups) && counts_within(c) && calendar_within(c)
 }
 
 // The next group, the counters and the two arrays, of as many groups as the record says.
 fn counts_within(c: Counters) -> bool
     ensures { result ≡ counts_within c }
 {
-    let n = c.groups;
-    let g = c.next;
-    if g < 1 {
-        return false;
-    }
-    if n < g {
-        return false;
-    }
-    if URGENT_LIMIT < c.urgent {
-        return false;
-    }
-    groups_within(c)
+    1 <= c.next && c.next <= c.groups && c.urgent <= URGENT_LIMIT && groups_within(c)
 }
 
 fn groups_within(c: Counters) -> bool
     ensures { result ≡ groups_within c }
 {
-    let n = c.groups;
-    let resolution = c.resolution;
-    let opened = c.opened;
-    if resolution_within(n, resolution) {
-        opened_within(n, opened)
+    resolution_within(c.groups, c.resolution) && opened_within(c.groups, c.opened)
+}
+
+// The RQ and the mark of the group at a place, one of the n groups or above them.
+fn resolution_fits(n: u8, i: usize, r: u16) -> bool
+    ensures { result ≡ resolution_within n i r }
+{
+    if i < usize::from(n) {
+        r <= RESOLUTION_LIMIT
     } else {
-        false
+        r == 0
     }
+}
+
+fn opened_fits(n: u8, i: usize, mark: bool) -> bool
+    ensures { result ≡ opened_within n i mark }
+{
+    i < usize::from(n) || mark
 }
 
 fn resolution_within(n: u8, resolution: [u16; 8]) -> bool
     ensures { result ≡ every_from (resolution_within n) 0 resolution }
 {
-    let groups = n as usize;
-    let mut i: usize = 0;
-    while i < 8 {
-        let r = resolution[i];
-        if i < groups {
-            if RESOLUTION_LIMIT < r {
-                return false;
-            }
-        } else if r != 0 {
+    for (i, r) in resolution.iter().enumerate() {
+        if !resolution_fits(n, i, *r) {
             return false;
         }
-        i += 1;
     }
     true
 }
@@ -80,13 +67,8 @@ fn resolution_within(n: u8, resolution: [u16; 8]) -> bool
 fn opened_within(n: u8, opened: [bool; 8]) -> bool
     ensures { result ≡ every_from (opened_within n) 0 opened }
 {
-    let groups = n as usize;
-    let mut i: usize = groups;
-    while i < 8 {
-        let b = opened[i];
-        if b {
-            i += 1;
-        } else {
+    for (i, mark) in opened.iter().enumerate() {
+        if !opened_fits(n, i, *mark) {
             return false;
         }
     }

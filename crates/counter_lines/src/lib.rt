@@ -8,7 +8,6 @@ ghost use Rattle.programs.specs.Buffering.{put_lines, place_after_lines};
 ghost use Rattle.wire_lines.specs.WireLines.{groups_lines};
 ghost use Rattle.counter_lines.specs.CounterLines.{counters_line, owners_line, group_line};
 
-use calendar_entries::POSITIONS;
 use counters::{place_of, resolution_of};
 use forms::put_form;
 use rules::Counters;
@@ -33,13 +32,11 @@ pub fn put_counters(out: &mut [u8], at: usize, call: u64, c: Counters) -> usize
 fn owner_values(call: u64, position: u8, entries: [u16; 24]) -> [u64; 26]
     ensures { result ≡ call ∷ position ∷ entries }
 {
-    let mut values = [0u64; 26];
+    let mut values = [0; 26];
     values[0] = call;
     values[1] = position as u64;
-    let mut i: usize = 0;
-    while i < POSITIONS {
-        values[i + 2] = entries[i] as u64;
-        i += 1;
+    for (i, entry) in entries.iter().enumerate() {
+        values[i + 2] = *entry as u64;
     }
     values
 }
@@ -49,9 +46,12 @@ pub fn put_owners(out: &mut [u8], at: usize, call: u64, c: Counters) -> usize
     ensures buffer { out.new ≡ put_at out.old at (owners_line call c) }
     ensures reached { result ≡ place_after out.old at (owners_line call c) }
 {
-    let entries = c.calendar;
-    let values = owner_values(call, c.position, entries);
-    put_form(out, at, b"#,owners", &values)
+    put_form(
+        out,
+        at,
+        b"#,owners",
+        &owner_values(call, c.position, c.calendar),
+    )
 }
 
 // The Open mark of a group, yes beyond the eight.
@@ -69,9 +69,10 @@ fn put_group(out: &mut [u8], at: usize, call: u64, c: Counters, group: u8) -> us
 {
     let values = [call, group as u64, resolution_of(c, group) as u64];
     if opened_of(c, group) {
-        return put_form(out, at, b"#,group,#,#,yes", &values);
+        put_form(out, at, b"#,group,#,#,yes", &values)
+    } else {
+        put_form(out, at, b"#,group,#,#,no", &values)
     }
-    put_form(out, at, b"#,group,#,#,no", &values)
 }
 
 // A line for each group.
@@ -80,10 +81,8 @@ pub fn put_groups(out: &mut [u8], at: usize, call: u64, c: Counters) -> usize
     ensures reached { result ≡ place_after_lines out.old at (groups_lines c.groups (group_line call c)) }
 {
     let mut to = at;
-    let mut i: u8 = 0;
-    while i < c.groups {
-        i += 1;
-        to = put_group(out, to, call, c, i);
+    for i in 0..c.groups {
+        to = put_group(out, to, call, c, i + 1);
     }
     to
 }

@@ -13,16 +13,7 @@ use rules::Counters;
 pub fn in_ranges(m: u8, n: u8) -> bool
     ensures { result ≡ in_ranges m n }
 {
-    if m < 2 {
-        return false;
-    }
-    if 8 < m {
-        return false;
-    }
-    if n < 1 {
-        return false;
-    }
-    n <= 8
+    2 <= m && m <= 8 && 1 <= n && n <= 8
 }
 
 // The counters at the start, m and n being in their ranges.
@@ -63,7 +54,7 @@ pub fn none() -> Counters
 pub fn place_of(number: u8) -> usize
     ensures { result ≡ number - 1 }
 {
-    if number < 1 { 0 } else { (number - 1) as usize }
+    usize::from(number.saturating_sub(1))
 }
 
 // RQ of a group, 0 beyond the eight.

@@ -10,15 +10,7 @@ ghost use Rattle.crowds.specs.Crowds.{crowded};
 fn times(x: u16, places: &[u16]) -> usize
     ensures { result ≡ count_of (eqb x) places.now }
 {
-    let mut n: usize = 0;
-    let mut i: usize = 0;
-    while i < places.len() {
-        if x == places[i] {
-            n += 1;
-        }
-        i += 1;
-    }
-    n
+    places.iter().filter(|y| x == **y).count()
 }
 
 // Whether a queue of so many places has each taken twice or more, from the last place down: where a list is too short for the queue, some
@@ -26,12 +18,10 @@ fn times(x: u16, places: &[u16]) -> usize
 pub fn crowded(places: &[u16], queue: u16) -> bool
     ensures { result ≡ crowded places.now queue }
 {
-    let mut place = queue;
-    while 0 < place {
-        if times(place, places) < 2 {
+    for passed in 0..queue {
+        if times(queue - passed, places) < 2 {
             return false;
         }
-        place -= 1;
     }
     true
 }

@@ -4,7 +4,7 @@
 use mathlib.Core.Bool.{Bool, true, false, ◌&&◌, and-true, and_assoc}
 use mathlib.Core.Path.{◌≡◌, refl, sym, ◌∙◌}
 use mathlib.Core.List.{List, [], ◌∷◌, ◌++◌}
-use Prim.Native.Nat.{ℕ, zero, suc, ◌+◌, ◌*◌, ◌/◌, ◌%◌, ◌^◌, ◌<◌, ◌≤◌}
+use Prim.Native.Nat.{ℕ, zero, suc, ◌+◌, ◌*◌, ◌/◌, ◌%◌, ◌^◌, ◌<◌, ◌≤◌, max}
 use native.Mathlib.Nat.{div-add-mod, mod-lt, pow-suc}
 use native.Mathlib.Omega.{arith}
 use borrow.Author.Tests.{lt-ltb, le-ltb, le-leb, ltb-true, ltb-false}
@@ -97,6 +97,43 @@ digits-few (suc k) n h = go (ltb n 10) refl (λ g. digits-few k (n / 10) (tenth_
     go : (t : Bool) → ltb n 10 ≡ t → (10 ≤ n → length (digits_of (n / 10)) ≤ suc k) → length (digits_of n) ≤ suc (suc k)
     go true e ih = rw (digits-one n (ltb-true n 10 e)) (omega arith)
     go false e ih = rw (digits-shorter n (ltb-false n 10 e)) (omega (arith, ih (ltb-false n 10 e)))
+
+ten_some : (k : ℕ) → 1 ≤ 10 ^ k
+ten_some zero = omega arith
+ten_some (suc k) =
+    let p : 10 ^ suc k ≡ 10 ^ k * 10 = pow-suc 10 k in
+    omega (arith, ten_some k)
+
+pub digits-many : (k n : ℕ) → 10 ^ k ≤ n → suc k ≤ length (digits_of n)
+digits-many zero n h = digits-some n
+digits-many (suc k) n h =
+    let p : 10 ^ suc k ≡ 10 ^ k * 10 = pow-suc 10 k in
+    let one : 1 ≤ 10 ^ k = ten_some k in
+    let tenth : 10 ^ k ≤ n / 10 = omega (arith, div-add-mod n 10, mod-lt n {m = 10} (omega arith)) in
+    rw (digits-shorter n (omega arith)) (omega (arith, digits-many k (n / 10) tenth))
+
+-- the power of ten that a number reaches tells how many, where 0 counts as 1
+pub digits-log : (k n : ℕ) → 10 ^ k ≤ max n 1 → max n 1 < 10 * 10 ^ k → length (digits_of n) ≡ k + 1
+digits-log k zero h l =
+    let one : length (digits_of 1) ≡ 1 = rw (digits-one 1 (omega arith)) in
+    rw (digits-one 0 (omega arith)) (omega (arith, digits-many k 1 h))
+digits-log k (suc n) h l =
+    let p : 10 ^ suc k ≡ 10 ^ k * 10 = pow-suc 10 k in
+    omega (arith, digits-many k (suc n) (omega arith), digits-few k (suc n) (omega arith))
+
+pub digits-lone : (n : ℕ) → length (digits_of n) ≤ 1 → n < 10
+digits-lone n h = go (ltb n 10) refl
+  where
+    go : (t : Bool) → ltb n 10 ≡ t → n < 10
+    go true e = ltb-true n 10 e
+    go false e = omega (arith, digits-shorter n (ltb-false n 10 e), digits-some (n / 10), ltb-false n 10 e)
+
+pub digits-ten : (n : ℕ) → 1 < length (digits_of n) → 10 ≤ n
+digits-ten n h = go (ltb n 10) refl
+  where
+    go : (t : Bool) → ltb n 10 ≡ t → 10 ≤ n
+    go true e = let one : length (digits_of n) ≡ 1 = rw (digits-one n (ltb-true n 10 e)) in absurd (omega arith)
+    go false e = ltb-false n 10 e
 
 -- a number below 100,000 is written as a field that reads back
 pub digits_field : (n : ℕ) → n < 100000 → is_field (digits_of n) ≡ true

@@ -3,16 +3,14 @@
 use mathlib.Core.Bool.{Bool, true, false}
 use mathlib.Core.Path.{◌≡◌, refl, ◌∙◌}
 use mathlib.Core.List.{List, [], ◌∷◌, ◌++◌}
-use Prim.Native.Nat.{ℕ, suc, ◌+◌, ◌/◌, ◌%◌, ◌<◌, ◌≤◌}
-use native.Mathlib.Numerals.{add-one}
+use Prim.Native.Nat.{ℕ, suc, ◌+◌, ◌/◌, ◌%◌, ◌≤◌}
 use native.Mathlib.Omega.{arith}
 use borrow.Author.Tests.{leb-true}
 use lib.Dec.{leb}
-use lib.ListN.{length, get_or, set, drop, length-append}
+use lib.ListN.{length, set, length-append}
 use lib.Seq.{sets, sets-eq, set_comm}
 use Rattle.decimals.specs.Decimal.{digits_of}
 use Rattle.decimals.specs.Putting.{put_at, place_after}
-use Rattle.listlaws.proofs.Loops.{rest}
 use Rattle.decimals.proofs.Decimals.{digits_more}
 
 -- one run and then another is one run
@@ -33,11 +31,6 @@ sets_last (x ∷ xs) l i y =
 pub digit-last : (l : List ℕ) (i n : ℕ) → 10 ≤ n
     → sets (set l (i + length (digits_of (n / 10))) (48 + n % 10)) i (digits_of (n / 10)) ≡ sets l i (digits_of n)
 digit-last l i n h = sets_last (digits_of (n / 10)) l i (48 + n % 10) ∙ rw (digits_more n h)
-
--- one byte of those that are copied
-pub store-next : (l bytes : List ℕ) (to from : ℕ) → from < length bytes
-    → sets (set l to (get_or bytes from 0)) (to + 1) (drop (from + 1) bytes) ≡ sets l to (drop from bytes)
-store-next l bytes to from h = rw (rest bytes from 0 h, add-one to)
 
 -- bytes that fit, and bytes that do not
 module _ (buffer : List ℕ) (at : ℕ) (bytes : List ℕ) where

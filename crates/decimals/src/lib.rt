@@ -20,25 +20,15 @@ pub fn digits(value: u64) -> usize
     ensures count { HasDigits value result }
     ensures few { result ≤ 20 }
 {
-    let mut count: usize = 1;
-    let mut left = value;
-    while 10 <= left {
-        left = left / 10;
-        count += 1;
-    }
-    count
+    // 0 is written with one digit, as 1 is
+    value.max(1).ilog10() as usize + 1
 }
 
 // Whether so many bytes fit from place at on.
 pub fn has_room(room: usize, at: usize, size: usize) -> bool
     ensures { result ≡ leb (at + size) room }
 {
-    if size <= room {
-        if at <= room - size {
-            return true;
-        }
-    }
-    false
+    size <= room && at <= room - size
 }
 
 // Writes the digits of value, of which there are size, from place at on, and gives the place after them.
@@ -47,12 +37,10 @@ pub fn write_number(out: &mut [u8], at: usize, size: usize, value: u64) -> usize
     ensures buffer { out.new ≡ sets out.old at (digits_of value) }
     ensures reached { result ≡ at + size }
 {
-    let mut to = at + size;
     let mut left = value;
-    while 10 <= left {
-        to -= 1;
+    for to in (at + 1..at + size).rev() {
         out[to] = 48 + (left % 10) as u8;
-        left = left / 10;
+        left /= 10;
     }
     out[at] = 48 + left as u8;
     at + size
@@ -75,14 +63,9 @@ pub fn write_bytes(out: &mut [u8], at: usize, bytes: &[u8]) -> usize
     ensures buffer { out.new ≡ sets out.old at bytes.now }
     ensures reached { result ≡ at + length bytes.now }
 {
-    let mut to = at;
-    let mut from = 0;
-    while from < bytes.len() {
-        out[to] = bytes[from];
-        to += 1;
-        from += 1;
-    }
-    to
+    let after = at + bytes.len();
+    out[at..after].copy_from_slice(bytes);
+    after
 }
 
 // A number in decimal, at place at if it fits there; gives the place after it, or at.
@@ -92,7 +75,8 @@ pub fn put_number(out: &mut [u8], at: usize, value: u64) -> usize
 {
     let size = digits(value);
     if has_room(out.len(), at, size) {
-        return write_number(out, at, size, value);
+        write_number(out, at, size, value)
+    } else {
+        at
     }
-    at
 }

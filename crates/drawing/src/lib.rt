@@ -1,23 +1,20 @@
-// What the tests of a table draw out of it into arrays, of 64 for its stations and of 128 for their messages: how far they go, the places
-// that messages hold in a queue, and in proofs/ the laws of an array that a loop fills.
+// What the tests of a table draw out of it: the messages of its stations, two of each of 64, and how far a loop over a table goes.
 
 #![tactic(auto)]
 
 ghost use Rattle.std.specs.Prelude.{◌≡◌, min};
 
-// The groups that a record of counters and the wire have room for.
-pub const MOST_GROUPS: usize = 8;
+use arrayvec::ArrayVec;
+use rules::TableMessage;
 
-// Places that messages hold in a queue: the first `count` of the list.
-#[derive(Clone, Copy)]
-pub struct DrawnPlaces {
-    pub list: [u16; 128],
-    pub count: usize,
-}
+// The messages of a table, and the places that they hold in a queue: two for each of 64 stations at most, in memory of that size.
+pub type Messages = ArrayVec<TableMessage, 128>;
+
+pub type Places = ArrayVec<u16, 128>;
 
 // The lesser of two numbers: how far a loop over a table goes, which has no more records than its array.
 pub fn least(a: usize, b: usize) -> usize
     ensures { result ≡ min a b }
 {
-    if a < b { a } else { b }
+    a.min(b)
 }

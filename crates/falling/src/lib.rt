@@ -16,11 +16,8 @@ fn urgent_falls(t: Turn, h: u16) -> u16
     ensures { result ≡ urgent_falls t h }
 {
     match t {
-        Turn::Owned { .. } => h,
         Turn::Urgent => less_one(h),
-        Turn::Long => h,
-        Turn::Resolve => h,
-        Turn::Open => h,
+        _ => h,
     }
 }
 
@@ -28,11 +25,8 @@ fn long_falls(t: Turn, n: u16) -> u16
     ensures { result ≡ long_falls t n }
 {
     match t {
-        Turn::Owned { .. } => n,
-        Turn::Urgent => n,
         Turn::Long => less_one(n),
-        Turn::Resolve => n,
-        Turn::Open => n,
+        _ => n,
     }
 }
 
@@ -56,18 +50,15 @@ pub fn fall(c: Counters, p: Places) -> Counters
     let g = (c.next - 1) as usize;
     let mut resolution = c.resolution;
     let mut opened = c.opened;
-    let calendar = c.calendar;
     resolution[g] = less_one(r);
     opened[g] = is_open(t);
     Counters {
-        minislots: c.minislots,
-        groups: c.groups,
         next: next_group(c.groups, c.next),
         urgent: urgent_falls(t, h),
         long: long_falls(t, n),
         resolution,
         opened,
-        calendar,
         position: next_position(c.position),
+        ..c
     }
 }

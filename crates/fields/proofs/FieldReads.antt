@@ -1,7 +1,8 @@
 -- What the answer of the reader of one field tells of the part that it read, and where the next part begins.
 -- Assumes nothing.
+use Rattle.std.specs.Prelude.{Option, Some, None}
 use mathlib.Core.Bool.{Bool, true, false, cond, true≢false, false≢true}
-use mathlib.Core.Path.{◌≡◌, refl, ◌∙◌}
+use mathlib.Core.Path.{◌≡◌, refl, ap, ◌∙◌}
 use mathlib.Core.List.{List, [], ◌∷◌}
 use Prim.Native.Nat.{ℕ, suc, ◌+◌}
 use native.Mathlib.Omega.{arith}
@@ -10,7 +11,7 @@ use lib.ListN.{length, drop}
 use lib.Seq.{drop-drop}
 use Rattle.fields.specs.Fields.{onto, parts, is_field, numeral}
 use Rattle.fields.specs.Steps.{none, field_of}
-use Rattle.fields.specs.declared.Field.TheVariants as field
+use Rattle.fields.specs.declared.Field.{Field}
 
 pub none_true : {A : Type 0} (l : List A) → none l ≡ true → l ≡ []
 unfolding none
@@ -53,23 +54,25 @@ pub record Read (at : ℕ) (ps : List (List ℕ)) (v n : ℕ) (last : Bool) : Ty
   pub next : at + length part + 1 ≡ n
   pub ends : none rest ≡ last
 
-pub was_read : (at : ℕ) (ps : List (List ℕ)) (v n : ℕ) (last : Bool) → field_of at ps ≡ field.Number v n last → Read at ps v n last
+pub was_read : (at : ℕ) (ps : List (List ℕ)) (f : Field) → field_of at ps ≡ Some f → Read at ps f.value f.next f.last
 unfolding field_of
-was_read at [] v n last e = let z : ◌≡◌ {A = ℕ} 0 1 = cc in absurd (omega arith)
-was_read at (p ∷ ps) v n last e = go (is_field p) refl e
+was_read at [] f e = cc
+was_read at (p ∷ ps) f e = go (is_field p) refl e
   where
-    go : (t : Bool) → is_field p ≡ t → cond t (field.Number (numeral p) (at + length p + 1) (none ps)) field.Broken ≡ field.Number v n last
-        → Read at (p ∷ ps) v n last
-    go true f h = record { part = p; rest = ps; these = refl; good = f; value = cc; next = cc; ends = cc }
-    go false f h = let z : ◌≡◌ {A = ℕ} 0 1 = cc in absurd (omega arith)
+    go : (t : Bool) → is_field p ≡ t → cond {A = Option Field} t (Some (record { value = numeral p; next = at + length p + 1; last = none ps })) None ≡ Some f
+        → Read at (p ∷ ps) f.value f.next f.last
+    go true g h =
+        let k : ◌≡◌ {A = Field} (record { value = numeral p; next = at + length p + 1; last = none ps }) f = cc in
+        record { part = p; rest = ps; these = refl; good = g; value = ap (λ (x : Field). x.value) k; next = ap (λ (x : Field). x.next) k; ends = ap (λ (x : Field). x.last) k }
+    go false g h = cc
 
 -- no field was read: the first part, if there is one, is none
-pub unread : (at : ℕ) (p : List ℕ) (ps : List (List ℕ)) → field_of at (p ∷ ps) ≡ field.Broken → is_field p ≡ false
+pub unread : (at : ℕ) (p : List ℕ) (ps : List (List ℕ)) → field_of at (p ∷ ps) ≡ None → is_field p ≡ false
 unfolding field_of
 unread at p ps e = go (is_field p) refl e
   where
-    go : (t : Bool) → is_field p ≡ t → cond t (field.Number (numeral p) (at + length p + 1) (none ps)) field.Broken ≡ field.Broken → is_field p ≡ false
-    go true f h = let z : ◌≡◌ {A = ℕ} 0 1 = cc in absurd (omega arith)
+    go : (t : Bool) → is_field p ≡ t → cond {A = Option Field} t (Some (record { value = numeral p; next = at + length p + 1; last = none ps })) None ≡ None → is_field p ≡ false
+    go true f h = cc
     go false f h = f
 
 -- where more parts come, they begin at the next place of the bytes

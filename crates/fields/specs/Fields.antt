@@ -1,6 +1,6 @@
 -- The fields of a record (paper: "comma-separated records", "a field is 1 to 5 digits; records have at most 128 bytes before CR LF").
 -- Bytes are numbers: the comma is 44, the digits are 48 to 57.
-use Rattle.std.specs.Prelude.{Bool, true, false, cond, ◌&&◌, ℕ, ◌+◌, ◌*◌, ◌-◌, eqb, leb, length}
+use Rattle.std.specs.Prelude.{Bool, true, cond, ◌&&◌, ℕ, ◌+◌, ◌*◌, ◌-◌, eqb, leb, length}
 use mathlib.Core.List.{List, [], ◌∷◌, map, foldl}
 
 -- a byte in front of the first part

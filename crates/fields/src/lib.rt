@@ -10,77 +10,76 @@ ghost use Rattle.fields.specs.First.{first_of, first_answer, first_answer_of};
 
 // One field: its number, the place after the comma that ends it, and whether the record's end ends it instead.
 #[derive(Clone, Copy)]
-pub enum Field {
-    Number(u32, usize, bool),
-    Broken,
+pub struct Field {
+    pub value: u32,
+    pub next: usize,
+    pub last: bool,
 }
 
-// The first record's two numbers, or number 19.
+// The first record's two numbers.
 #[derive(Clone, Copy)]
-pub enum First {
-    Numbers(u32, u32),
-    Broken,
+pub struct First {
+    pub m: u32,
+    pub n: u32,
 }
 
-const COMMA: u8 = 44;
 // The most bytes of a record.
 const LONGEST: usize = 128;
+// The most digits of a field.
+const MOST_DIGITS: usize = 5;
 
-// The field that begins at place start.
-pub fn field_at(bytes: &[u8], start: usize) -> Field
+// The field that begins at place start, if there is one.
+pub fn field_at(bytes: &[u8], start: usize) -> Option<Field>
     ensures { result ≡ field_of start (parts (drop start bytes.now)) }
 {
-    let mut at = start;
     let mut value: u32 = 0;
     let mut digits: usize = 0;
-    while at < bytes.len() {
+    for at in start..bytes.len() {
         let b = bytes[at];
-        if b == COMMA {
+        if b == b',' {
             if digits == 0 {
-                return Field::Broken;
+                return None;
             }
-            return Field::Number(value, at + 1, false);
+            return Some(Field {
+                value,
+                next: at + 1,
+                last: false,
+            });
         }
-        if b < 48 {
-            return Field::Broken;
+        if b < b'0' || b'9' < b || digits == MOST_DIGITS {
+            return None;
         }
-        if 57 < b {
-            return Field::Broken;
-        }
-        if digits == 5 {
-            return Field::Broken;
-        }
-        value = value * 10 + (b - 48) as u32;
+        value = value * 10 + u32::from(b - b'0');
         digits += 1;
-        at += 1;
     }
     if digits == 0 {
-        return Field::Broken;
+        return None;
     }
-    Field::Number(value, at + 1, true)
+    Some(Field {
+        value,
+        next: bytes.len() + 1,
+        last: true,
+    })
 }
 
-// The two numbers of the first record.
-pub fn first_fields(bytes: &[u8]) -> First
+// The two numbers of the first record, if it has two and no more.
+pub fn first_fields(bytes: &[u8]) -> Option<First>
     ensures first { result ≡ first_of bytes.now }
     ensures answer { first_answer result ≡ first_answer_of bytes.now }
 {
     if LONGEST < bytes.len() {
-        return First::Broken;
+        return None;
     }
-    let one = field_at(bytes, 0);
-    let Field::Number(m, next, last) = one else {
-        return First::Broken;
-    };
-    if last {
-        return First::Broken;
+    let one = field_at(bytes, 0)?;
+    if one.last {
+        return None;
     }
-    let two = field_at(bytes, next);
-    let Field::Number(n, _, done) = two else {
-        return First::Broken;
-    };
-    if done {
-        return First::Numbers(m, n);
+    let two = field_at(bytes, one.next)?;
+    if !two.last {
+        return None;
     }
-    First::Broken
+    Some(First {
+        m: one.value,
+        n: two.value,
+    })
 }

@@ -4,15 +4,16 @@
 #![tactic(auto)]
 
 use follow_header::put_header;
+use follower::Follow;
 use following::begin;
 use pipes::{Failure, flush, open_named, serve, status, too_long};
-use rounds::follow_round;
+use rounds::round;
 use standing::begin_run;
 use std::env::{Env, FillError};
 use std::io::{self, Read, Write};
 use std::process::ExitCode;
 use std::rt::Files;
-use stream::follow_buffered;
+use stream::buffered;
 
 // Follows all that the reader gives. A proved loop has to end, and nothing says that the input does: so the loop counts its rounds, up to
 // a number that no run comes to.
@@ -24,8 +25,8 @@ fn follow_input(reader: &mut impl Read, writer: &mut impl Write) -> Result<(), F
     let mut f = begin();
     let mut s = begin_run(put_header(out, 0));
     for _ in 0..u64::MAX {
-        let followed = follow_round(f, s, input, out);
-        f = followed.follower;
+        let followed = round::<Follow>(f, s, input, out);
+        f = followed.state;
         let served = serve(reader, writer, followed.run, input, out)?;
         s = served.run;
         if !served.live {
@@ -41,7 +42,7 @@ fn follow_example(writer: &mut impl Write) -> Result<(), Failure> {
     let out: &mut [u8] = &mut space;
     let at = put_header(out, 0);
     let recording = b"2,1\r\n0,0,0,0\r\n63,1,95,3\r\n127,3,0,0\r\n111,1,119,2\r\n0,0,0,0\r\n";
-    let n = follow_buffered(begin(), recording, 0, true, out, at);
+    let n = buffered::<Follow>(begin(), recording, 0, true, out, at);
     flush(writer, out, n.at)
 }
 

@@ -6,13 +6,13 @@
 
 use buffers::count_first;
 use follow_header::put_header;
+use follower::Follow;
 use following::begin;
-use runs_cases::line_end;
 use runs_files::{read_full, read_named};
 use runs_text::text;
 use std::io;
 use std::rt::Files;
-use stream::follow_buffered;
+use stream::buffered;
 
 // Writes the bytes before place at.
 fn print(rt: &impl Print, out: &[u8], at: usize) -> io::Result<()> {
@@ -25,7 +25,7 @@ fn print_followed(rt: &impl Print, bytes: &[u8]) -> io::Result<()> {
     let mut space = [0u8; 65536];
     let out: &mut [u8] = &mut space;
     let at = put_header(out, 0);
-    let n = follow_buffered(begin(), bytes, 0, true, out, at);
+    let n = buffered::<Follow>(begin(), bytes, 0, true, out, at);
     print(rt, out, n.at)
 }
 
@@ -39,18 +39,11 @@ fn run(rt: &(impl Files + Print), name: &[u8]) -> io::Result<()> {
     text(rt, b"\n")
 }
 
-fn runs(rt: &(impl Files + Print), names: &[u8]) -> io::Result<()> {
-    let mut at: usize = 0;
-    while at < names.len() {
-        let end = line_end(names, at);
-        run(rt, &names[at..end])?;
-        at = end + 1;
-    }
-    Ok(())
-}
-
 fn main(rt: HostRuntime) -> io::Result<()> {
     let mut space = [0u8; 65536];
     let n = read_full(&mut rt.reader(), &mut space)?;
-    runs(&rt, &space[..n])
+    for line in space[..n].split_inclusive(|byte| *byte == b'\n') {
+        run(&rt, line.strip_suffix(b"\n").unwrap_or(line))?;
+    }
+    Ok(())
 }

@@ -15,25 +15,18 @@ use rules::StartAnswer;
 pub fn start_with(f: Follower, m: u32, n: u32) -> Step
     ensures { result ≡ started_step f (start_of m n) }
 {
-    if 8 < m {
-        return refused(f, 5);
-    }
-    if 8 < n {
+    if 8 < m || 8 < n {
         return refused(f, 5);
     }
     let started = start(m as u8, n as u8);
-    let answer = started.answer;
-    match answer {
+    match started.answer {
         StartAnswer::Refused(number) => refused(f, number),
-        StartAnswer::Ready => {
-            let counters = started.counters;
-            Step {
-                follower: Follower {
-                    counters,
-                    place: place_following(f.place),
-                },
-                line: Line::Nothing,
-            }
-        }
+        StartAnswer::Ready => Step {
+            follower: Follower {
+                counters: started.counters,
+                place: place_following(f.place),
+            },
+            line: Line::Nothing,
+        },
     }
 }

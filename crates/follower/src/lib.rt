@@ -2,18 +2,18 @@
 
 #![tactic(auto)]
 
-ghost use Rattle.std.specs.Prelude.{◌≡◌};
+ghost use Rattle.std.specs.Prelude.{◌≡◌, refl};
 ghost use Rattle.programs.specs.Advancing.{advance_of};
-ghost use Rattle.programs.specs.Buffering.{put_lines, place_after_lines, reached};
+ghost use Rattle.programs.specs.Buffering.{put_lines, place_after_lines, reached, reached_by};
 ghost use Rattle.following.specs.Following.{printed, follow_record};
 ghost use Rattle.following.specs.FollowProgram.{follow_program};
-ghost use Rattle.follower.specs.Writing.{followed, reached_by};
+ghost use Rattle.follower.specs.Writing.{followed};
 ghost use Rattle.follower.specs.Answered.{progress_told, record_told_of, next_told_of};
 
 use advances::{advance_at, progress_of};
 use following::{Follower, Line};
 use lines::put_line;
-use programs::Progress;
+use programs::{Next, Program, Progress};
 use record_steps::read_record;
 use refusals::put_refusal;
 
@@ -22,15 +22,6 @@ use refusals::put_refusal;
 pub struct Followed {
     pub progress: Progress,
     pub follower: Follower,
-    pub at: usize,
-}
-
-// The record that begins at a place: what became of it, what is known after it, where the next begins, and the place after its line.
-#[derive(Clone, Copy)]
-pub struct Next {
-    pub progress: Progress,
-    pub follower: Follower,
-    pub next: usize,
     pub at: usize,
 }
 
@@ -61,14 +52,10 @@ pub fn follow_record(f: Follower, bytes: &[u8], out: &mut [u8], at: usize) -> Fo
     ensures told { progress_told result.progress ≡ record_told_of f bytes.now }
 {
     let s = read_record(f, bytes);
-    let line = s.line;
-    let follower = s.follower;
-    let progress = progress_of(line);
-    let after = put(line, out, at);
     Followed {
-        progress,
-        follower,
-        at: after,
+        progress: progress_of(s.line),
+        follower: s.follower,
+        at: put(s.line, out, at),
     }
 }
 
@@ -81,20 +68,43 @@ pub fn follow_next(
     ended: bool,
     out: &mut [u8],
     at: usize,
-) -> Next
+) -> Next<Follower>
     ensures buffer { out.new ≡ put_lines out.old at (advance_of follow_program f bytes.now start ended).lines }
     ensures answer { reached_by result ≡ reached (advance_of follow_program f bytes.now start ended) out.old at }
     ensures told { progress_told result.progress ≡ next_told_of f bytes.now start ended }
 {
     let a = advance_at(f, bytes, start, ended);
-    let line = a.line;
-    let progress = a.progress;
-    let follower = a.follower;
-    let after = put(line, out, at);
     Next {
-        progress,
-        follower,
+        progress: a.progress,
+        state: a.follower,
         next: a.next,
-        at: after,
+        at: put(a.line, out, at),
     }
+}
+
+// The program `follow`, to be run by what runs any program that reads records.
+pub struct Follow;
+
+impl Program for Follow {
+    type State = Follower;
+
+    ghost program = { follow_program };
+
+    ghost ROOM = { 128 };
+
+    // No line is longer than this.
+    const ROOM: usize = 128;
+
+    fn next(
+        state: Follower,
+        bytes: &[u8],
+        start: usize,
+        ended: bool,
+        out: &mut [u8],
+        at: usize,
+    ) -> Next<Follower> {
+        follow_next(state, bytes, start, ended, out, at)
+    }
+
+    ghost room_is = { refl };
 }

@@ -70,8 +70,7 @@ pub fn refused(f: Follower, number: u8) -> Step
 pub fn listened(f: Follower, heard: Listened) -> Step
     ensures { result ≡ listened_step f heard }
 {
-    let answer = heard.answer;
-    match answer {
+    match heard.answer {
         ListenAnswer::Refused(number) => refused(f, number),
         ListenAnswer::Went(turn) => {
             let before = f.counters;

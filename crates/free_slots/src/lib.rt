@@ -27,14 +27,12 @@ pub fn free_slots(calendar: [u16; 24], position: u8) -> FreeSlots
     let mut slots = [0u8; 24];
     let mut count: usize = 0;
     let mut p = position;
-    let mut i: usize = 0;
-    while i < POSITIONS {
+    for i in 0..POSITIONS {
         if calendar[p as usize] == FREE {
             slots[count] = i as u8;
             count += 1;
         }
         p = next_position(p);
-        i += 1;
     }
     FreeSlots { count, slots }
 }
@@ -48,12 +46,9 @@ pub fn slots_until(c: Counters) -> u32
     if places == 0 {
         return 0;
     }
-    let calendar = c.calendar;
-    let free = free_slots(calendar, c.position);
-    let count = free.count;
-    let slots = free.slots;
+    let free = free_slots(c.calendar, c.position);
     let before = places - 1;
-    let rounds = before / count;
-    let last = slots[before % count] as usize;
+    let rounds = before / free.count;
+    let last = free.slots[before % free.count] as usize;
     (POSITIONS * rounds + last + 1) as u32
 }

@@ -7,7 +7,8 @@ use mathlib.Core.List.{List, [], ◌∷◌}
 use Prim.Native.Nat.{ℕ, zero, suc}
 use lib.Dec.{eqb, ltb}
 use lib.ListN.{length, get_or, set, length-set}
-use Rattle.listlaws.specs.Lists.{each, each_pair, gather_of}
+use Rattle.std.specs.List.{list_all, flat_map}
+use Rattle.listlaws.specs.Lists.{each_pair}
 use Rattle.listlaws.specs.Every.{every_from}
 use Rattle.rules.specs.declared.Condition.{Condition}
 use Rattle.rules.specs.declared.Condition.TheVariants.{Free, Held}
@@ -29,10 +30,10 @@ use Rattle.channel_rules.proofs.SoundTests.{sound-tests, tests-sound}
 
 module _ {A : Type 0} (test : A → Bool) where
   -- all pass, with one in another's place that passes
-  each_set : (l : List A) (k : ℕ) (x : A) → each test l ≡ true → test x ≡ true → each test (set l k x) ≡ true
+  each_set : (l : List A) (k : ℕ) (x : A) → list_all test l ≡ true → test x ≡ true → list_all test (set l k x) ≡ true
   each_set [] k x e h = refl
-  each_set (y ∷ l) zero x e h = rw h (and_both (test y) (each test l) e).1
-  each_set (y ∷ l) (suc k) x e h = let (a, b) = and_both (test y) (each test l) e in rw a (each_set l k x b h)
+  each_set (y ∷ l) zero x e h = rw h (and_both (test y) (list_all test l) e).1
+  each_set (y ∷ l) (suc k) x e h = let (a, b) = and_both (test y) (list_all test l) e in rw a (each_set l k x b h)
 
 -- station k of a table with a condition in one of its records
 abbrev pub put : Which → Condition → List Station → ℕ → List Station
@@ -56,14 +57,14 @@ module _ (o : Which) (c : Condition) where
   -- ---- what goes by indexes and counters alone
 
   module _ (test : Station → Bool) (stays : (s : Station) → test (with_record o s c) ≡ test s) where
-    each-put : (l : List Station) (k : ℕ) → each test (put o c l k) ≡ each test l
+    each-put : (l : List Station) (k : ℕ) → list_all test (put o c l k) ≡ list_all test l
     each-put [] k = refl
-    each-put (s ∷ l) zero = ap (λ (b : Bool). b && each test l) (stays s)
+    each-put (s ∷ l) zero = ap (λ (b : Bool). b && list_all test l) (stays s)
     each-put (s ∷ l) (suc k) = ap (λ (b : Bool). test s && b) (each-put l k)
 
   others_put : (l : List Station) (k : ℕ) → each_pair other_index (put o c l k) ≡ each_pair other_index l
   others_put [] k = refl
-  others_put (s ∷ l) zero = ap (λ (n : ℕ). each (λ (x : Station). not (eqb n x.index)) l && each_pair other_index l) (index_stays s)
+  others_put (s ∷ l) zero = ap (λ (n : ℕ). list_all (λ (x : Station). not (eqb n x.index)) l && each_pair other_index l) (index_stays s)
   others_put (s ∷ l) (suc k) = λ i. each-put (other_index s) (λ x. rw (index_stays x)) l k i && others_put l k i
 
   pub position-put : (x : ℕ) (l : List Station) (k : ℕ) → position_of x (put o c l k) ≡ position_of x l
@@ -86,7 +87,7 @@ module _ (o : Which) (c : Condition) where
 
 module _ {E : Type 0} (view : ℕ → Condition → List E) (t : ℕ) (same : (x : ℕ) → view x (Held t) ≡ view x Free) where
   given : (o : Which) (l : List Station) (k : ℕ) → record_in o (get_or l k no_station) ≡ Free
-      → gather_of (λ (m : TableMessage). view m.index m.condition) (messages_of (put o (Held t) l k)) ≡ gather_of (λ (m : TableMessage). view m.index m.condition) (messages_of l)
+      → flat_map (λ (m : TableMessage). view m.index m.condition) (messages_of (put o (Held t) l k)) ≡ flat_map (λ (m : TableMessage). view m.index m.condition) (messages_of l)
   given o [] k e = refl
   given ShortOne (s ∷ l) zero e = rw (e, same s.index)
   given LongOne (s ∷ l) zero e = rw (e, same s.index)
@@ -108,7 +109,7 @@ module _ (o : Which) (t : ℕ) (l : List Station) (k : ℕ) (free : record_in o 
   shared-now : counters_shared now ≡ counters_shared l
   unfolding counters_shared
   shared-now =
-      ap (λ (c : Counters). each (λ (s : Station). same_counters c s.counters) now) counters-now
+      ap (λ (c : Counters). list_all (λ (s : Station). same_counters c s.counters) now) counters-now
       ∙ each-put o (Held t) (λ s. same_counters (table_counters l) s.counters) (λ s. ap (same_counters (table_counters l)) (counters-stay o (Held t) s)) l k
 
   urgent-now : urgent_sound now ≡ urgent_sound l
@@ -140,7 +141,7 @@ module _ (o : Which) (t : ℕ) (l : List Station) (k : ℕ) (free : record_in o 
   owners-now : owners_sound now ≡ owners_sound l
   unfolding owners_sound entries_on
   owners-now =
-      λ i. eqb (length (counters-now i).calendar) positions && each (λ x. eqb x free_entry || on-put o (Held t) x l k i) (counters-now i).calendar
+      λ i. eqb (length (counters-now i).calendar) positions && list_all (λ x. eqb x free_entry || on-put o (Held t) x l k i) (counters-now i).calendar
 
   pub sound-put : (wire : List WireRow) → sound_table l wire ≡ true → station_within (with_record o (get_or l k no_station) (Held t)) ≡ true → sound_table now wire ≡ true
   unfolding records_within

@@ -38,8 +38,5 @@ pub fn immediate_success(opened: bool, row: [MinislotFeedback; 8], m: u8) -> boo
         row,
         m,
     );
-    if brought.resolution != 0 {
-        return false;
-    }
-    brought.urgent == 1
+    brought.resolution == 0 && brought.urgent == 1
 }

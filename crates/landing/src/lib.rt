@@ -33,34 +33,23 @@ fn stand(g: u8, landing: Landing, total: u8) -> Condition
 fn stand_at(landed: [Landed; 8], g: u8, minislot: u8, total: u8) -> Condition
     ensures { result ≡ stands g (get_or landed (minislot - 1) (at Landing.Gone)).landing total }
 {
-    let j = place_of(minislot);
-    if j < 8 {
-        let l = landed[j];
-        let landing = l.landing;
-        return stand(g, landing, total);
+    match landed.get(place_of(minislot)) {
+        Some(l) => stand(g, l.landing, total),
+        None => Condition::Free,
     }
-    Condition::Free
 }
 
-// The condition after step 1 of a slot of group g.
+// The condition after step 1 of a slot of group g: only a message that asked in that group moves.
+#[tactic(auto, unfolding(rules::specs::Stepping::settled_in))]
 pub fn settled_in(landed: [Landed; 8], g: u8, k: Condition) -> Condition
     ensures { result ≡ settled_in landed g k }
 {
     match k {
-        Condition::Free => k,
-        Condition::Fresh { .. } => k,
         Condition::Asked {
             group,
             minislot,
             total,
-        } => if group == g {
-            stand_at(landed, g, minislot, total)
-        } else {
-            k
-        },
-        Condition::Resolving { .. } => k,
-        Condition::Urgent { .. } => k,
-        Condition::Long { .. } => k,
-        Condition::Held { .. } => k,
+        } if group == g => stand_at(landed, g, minislot, total),
+        _ => k,
     }
 }

@@ -10,7 +10,7 @@ ghost use Rattle.decimals.specs.Putting.{put_at, place_after};
 ghost use Rattle.lines.specs.Lines.{line_of};
 ghost use Rattle.lines.specs.Pieces.{slot_bytes, counter_bytes};
 
-use decimals::{COMMA, CR, LF, digits, has_room, write_field};
+use decimals::{COMMA, CR, LF, digits, has_room, write_bytes, write_field};
 
 // The first half of a row's line: slot, group and turn, each with a comma after it.
 fn write_slot(
@@ -28,10 +28,7 @@ fn write_slot(
 {
     let first = write_field(out, at, a, slot, COMMA);
     let second = write_field(out, first, b, group, COMMA);
-    out[second] = turn;
-    let third = second + 1;
-    out[third] = COMMA;
-    third + 1
+    write_bytes(out, second, &[turn, COMMA])
 }
 
 // The second half of a row's line: the three counters, and CR LF.
@@ -56,7 +53,8 @@ fn write_counters(
     third + 1
 }
 
-// The line of a row, at place at if it fits there; gives the place after it, or at. turn is the letter.
+// The line of a row, at place at if it fits there; gives the place after it, or at. turn is the letter: any byte, a form's mark too,
+// so the line is no form.
 pub fn put_line(
     out: &mut [u8],
     at: usize,
@@ -71,22 +69,18 @@ pub fn put_line(
     ensures reached { result ≡ place_after out.old at (line_of slot group turn urgent long resolution) }
 {
     let a = digits(slot);
-    let b = digits(group as u64);
-    let c = digits(urgent as u64);
-    let d = digits(long as u64);
-    let e = digits(resolution as u64);
+    let group = group as u64;
+    let urgent = urgent as u64;
+    let long = long as u64;
+    let resolution = resolution as u64;
+    let b = digits(group);
+    let c = digits(urgent);
+    let d = digits(long);
+    let e = digits(resolution);
     if has_room(out.len(), at, a + b + c + d + e + 8) {
-        let half = write_slot(out, at, a, slot, b, group as u64, turn);
-        return write_counters(
-            out,
-            half,
-            c,
-            urgent as u64,
-            d,
-            long as u64,
-            e,
-            resolution as u64,
-        );
+        let half = write_slot(out, at, a, slot, b, group, turn);
+        write_counters(out, half, c, urgent, d, long, e, resolution)
+    } else {
+        at
     }
-    at
 }

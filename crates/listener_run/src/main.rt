@@ -22,11 +22,46 @@ ghost use Rattle.rules.specs.Listening.{listening_of};
 
 use recording::recordings;
 use rules::{CalendarAnswer, Counters, ListenAnswer, Listened, StartAnswer, Turn};
-use runs_cases::{Group, count, counts, group_at, line_end, number, number8, which, whole, words};
+use runs_cases::{Group, split_group, whole, word};
 use runs_files::read_full;
-use runs_records::{counters_at, counters_numbers, counters_of, entries_of, owned_text, turn_text};
-use runs_text::{form, text};
+use runs_records::{counters_at, counters_of, entries_of, owned_text};
+use runs_text::{fields, text};
 use std::io;
+
+// Listening by value, from a place of what is lent, or with the record lent.
+#[derive(Clone, Copy)]
+pub(crate) enum Way {
+    Value,
+    Place,
+    Lent,
+}
+
+// What a line asks for.
+#[derive(Clone, Copy)]
+enum Call {
+    Listen(Way),
+    Start,
+    Calendar,
+    Before,
+    Position,
+    Row,
+    Recording,
+}
+
+fn call_of(word: &[u8]) -> Option<Call> {
+    match word {
+        b"value" => Some(Call::Listen(Way::Value)),
+        b"place" => Some(Call::Listen(Way::Place)),
+        b"lent" => Some(Call::Listen(Way::Lent)),
+        b"start" => Some(Call::Start),
+        b"calendar" => Some(Call::Calendar),
+        b"before" => Some(Call::Before),
+        b"position" => Some(Call::Position),
+        b"row" => Some(Call::Row),
+        b"recording" => Some(Call::Recording),
+        _ => None,
+    }
+}
 
 // What the calls are made on: a record, whether its calendar is written, and a row or a recording.
 #[derive(Clone, Copy)]
@@ -39,13 +74,16 @@ struct Given {
 
 // ---- records and answers as text
 
-fn record_text(rt: &impl Print, c: Counters, shown: bool) -> io::Result<()> {
-    let numbers = counters_numbers(c);
-    form(
-        rt,
-        b" m,# n,# next,# H,# N,# RQ,#,#,#,#,#,#,#,# Open,#,#,#,#,#,#,#,#",
-        &numbers[0..21],
+fn record_text(rt: &impl Print, c: &Counters, shown: bool) -> io::Result<()> {
+    print!(rt;
+        " m,{} n,{} next,{} H,{} N,{} RQ",
+        c.minislots, c.groups, c.next, c.urgent, c.long
     )?;
+    fields(rt, &c.resolution)?;
+    text(rt, b" Open")?;
+    for opened in &c.opened {
+        print!(rt; ",{}", u8::from(*opened))?;
+    }
     if shown {
         text(rt, b" ")?;
         owned_text(rt, c)?;
@@ -53,48 +91,47 @@ fn record_text(rt: &impl Print, c: Counters, shown: bool) -> io::Result<()> {
     Ok(())
 }
 
+// A turn by its letter, that of an owned slot with the owner.
 fn letter_text(rt: &impl Print, turn: Turn) -> io::Result<()> {
-    text(rt, b" ")?;
-    turn_text(rt, b"u l r o w ", turn)
+    match turn {
+        Turn::Owned { owner } => print!(rt; " w,{owner}"),
+        Turn::Urgent => text(rt, b" u"),
+        Turn::Long => text(rt, b" l"),
+        Turn::Resolve => text(rt, b" r"),
+        Turn::Open => text(rt, b" o"),
+    }
 }
 
 fn refusal_text(rt: &impl Print, number: u8) -> io::Result<()> {
-    let numbers = [number as u64];
-    form(rt, b" refused,#", &numbers)
+    print!(rt; " refused,{number}")
 }
 
-pub(crate) fn heard_text(rt: &impl Print, heard: Listened, shown: bool) -> io::Result<()> {
-    let answer = heard.answer;
-    match answer {
+pub(crate) fn heard_text(rt: &impl Print, heard: &Listened, shown: bool) -> io::Result<()> {
+    match heard.answer {
         ListenAnswer::Went(turn) => letter_text(rt, turn)?,
         ListenAnswer::Refused(number) => refusal_text(rt, number)?,
     }
-    let c = heard.counters;
-    record_text(rt, c, shown)
+    record_text(rt, &heard.counters, shown)
 }
 
 // ---- the calls
 
 fn start_text(rt: &impl Print, m: u8, n: u8) -> io::Result<()> {
     let started = listener::start(m, n);
-    let answer = started.answer;
-    match answer {
+    match started.answer {
         StartAnswer::Ready => text(rt, b" ready")?,
         StartAnswer::Refused(number) => refusal_text(rt, number)?,
     }
-    let c = started.counters;
-    record_text(rt, c, false)
+    record_text(rt, &started.counters, false)
 }
 
 fn calendar_text(rt: &impl Print, c: Counters, entries: [u16; 24]) -> io::Result<()> {
     let set = listener::set_calendar(c, entries);
-    let answer = set.answer;
-    match answer {
+    match set.answer {
         CalendarAnswer::Set => text(rt, b" set")?,
         CalendarAnswer::Refused(number) => refusal_text(rt, number)?,
     }
-    let after = set.counters;
-    record_text(rt, after, true)
+    record_text(rt, &set.counters, true)
 }
 
 // The lent form: the record is lent for the row, and is handed on as it is found after.
@@ -109,115 +146,110 @@ fn lent(c: Counters, words: &[u16], counts: &[u8]) -> Listened
     }
 }
 
-// Listening in one of three ways: 1 by value, 2 from a place of what is lent, 3 with the record lent.
 pub(crate) fn heard_by(
-    way: u64,
+    way: Way,
     c: Counters,
     words: &[u16],
     counts: &[u8],
     place: usize,
 ) -> Listened {
     match way {
-        1 => listening::listen(c, words, counts),
-        2 => listening::listen_at(c, words, counts, place),
-        _ => lent(c, words, counts),
+        Way::Value => listening::listen(c, words, counts),
+        Way::Place => listening::listen_at(c, words, counts, place),
+        Way::Lent => lent(c, words, counts),
     }
 }
 
-fn call_text(rt: &impl Print, s: Given, way: u64, place: usize) -> io::Result<()> {
-    let c = s.counters;
-    let shown = s.shown;
-    let w = s.words;
-    let k = s.counts;
-    let words = words(w, 1, 1);
-    let counts = counts(k, 1, 1);
-    let many = count(w);
-    let end = count(k);
-    let heard = heard_by(way, c, &words[0..many], &counts[0..end], place);
-    heard_text(rt, heard, shown)
+fn listen_text(rt: &impl Print, s: &Given, way: Way, place: usize) -> io::Result<()> {
+    let words = s.words.words(1, 1);
+    let counts = s.counts.counts(1, 1);
+    let words = &words[..s.words.count()];
+    let counts = &counts[..s.counts.count()];
+    let heard = heard_by(way, s.counters, words, counts, place);
+    heard_text(rt, &heard, s.shown)
 }
 
 // ---- the cases
 
-// What is given after a line that is written, with its answer behind it: 1 to 3 a call, 4 a start, 5 a calendar set, 6 a record, 7 its
-// position and calendar, 8 a row.
-fn answered(rt: &impl Print, s: Given, kind: u64, line: &[u8], head: Group) -> io::Result<Given> {
-    let mut s = s;
-    let c = s.counters;
-    match kind {
-        4 => start_text(rt, number8(head, 1), number8(head, 2))?,
-        5 => calendar_text(rt, c, entries_of(head))?,
-        6 => {
-            s.counters = counters_of(whole(line));
-            s.shown = false;
+// What is given after a line that is written, with its answer behind it.
+fn answered(rt: &impl Print, s: Given, call: Call, line: &[u8]) -> io::Result<Given> {
+    let (head, rest) = split_group(line);
+    match call {
+        Call::Listen(way) => {
+            listen_text(rt, &s, way, head.number(1) as usize)?;
+            Ok(s)
         }
-        7 => {
-            s.counters = counters_at(c, line, head);
-            s.shown = true;
+        Call::Start => {
+            start_text(rt, head.number8(1), head.number8(2))?;
+            Ok(s)
         }
-        8 => {
-            let words = group_at(line, head.next);
-            s.words = words;
-            s.counts = group_at(line, words.next);
+        Call::Calendar => {
+            calendar_text(rt, s.counters, entries_of(&head))?;
+            Ok(s)
         }
-        _ => call_text(rt, s, kind, number(head, 1) as usize)?,
+        Call::Before => Ok(Given {
+            counters: counters_of(&whole(line)),
+            shown: false,
+            ..s
+        }),
+        Call::Position => Ok(Given {
+            counters: counters_at(s.counters, &head, rest),
+            shown: true,
+            ..s
+        }),
+        Call::Row => {
+            let (words, rest) = split_group(rest);
+            let (counts, _) = split_group(rest);
+            Ok(Given { words, counts, ..s })
+        }
+        // a recording is written by its rows alone
+        Call::Recording => Ok(s),
     }
-    Ok(s)
 }
 
 // A line `recording`: with the calendar that is given.
-fn recorded(rt: &impl Print, s: Given, head: Group) -> io::Result<()> {
-    let c = s.counters;
-    let entries = c.calendar;
-    let p = number(head, 1) as usize;
-    recordings(rt, p, number8(head, 2), number8(head, 3), entries, s.shown)
+fn recorded(rt: &impl Print, s: &Given, line: &[u8]) -> io::Result<()> {
+    let (head, _) = split_group(line);
+    let p = head.number(1) as usize;
+    recordings(
+        rt,
+        p,
+        head.number8(2),
+        head.number8(3),
+        s.counters.calendar,
+        s.shown,
+    )
 }
 
 // One line.
 fn case(rt: &impl Print, s: Given, line: &[u8]) -> io::Result<Given> {
-    let head = group_at(line, 0);
-    let kind = which(
-        line,
-        0,
-        b"value place lent start calendar before position row recording ",
-    );
-    if kind == 0 {
-        return Ok(s);
+    match call_of(word(line)) {
+        None => Ok(s),
+        Some(Call::Recording) => {
+            recorded(rt, &s, line)?;
+            Ok(s)
+        }
+        Some(call) => {
+            text(rt, line)?;
+            let after = answered(rt, s, call, line)?;
+            text(rt, b"\n")?;
+            Ok(after)
+        }
     }
-    if kind == 9 {
-        recorded(rt, s, head)?;
-        return Ok(s);
-    }
-    text(rt, line)?;
-    let after = answered(rt, s, kind, line, head)?;
-    text(rt, b"\n")?;
-    Ok(after)
-}
-
-fn cases(rt: &impl Print, bytes: &[u8], s: Given) -> io::Result<()> {
-    let mut s = s;
-    let mut at: usize = 0;
-    while at < bytes.len() {
-        let end = line_end(bytes, at);
-        s = case(rt, s, &bytes[at..end])?;
-        at = end + 1;
-    }
-    Ok(())
 }
 
 fn main(rt: HostRuntime) -> io::Result<()> {
     let mut space = [0u8; 65536];
     let n = read_full(&mut rt.reader(), &mut space)?;
-    let none = group_at(b"", 0);
-    let counters = counters_of(none);
-    cases(
-        &rt,
-        &space[..n],
-        Given {
-            counters,
-            shown: false,
-            words: none,
-            counts: none,
-        },
-    )
+    let none = whole(b"");
+    let mut given = Given {
+        counters: counters_of(&none),
+        shown: false,
+        words: none,
+        counts: none,
+    };
+    for line in space[..n].split(|byte| *byte == b'\n') {
+        given = case(&rt, given, line)?;
+    }
+    Ok(())
 }

@@ -1,10 +1,10 @@
 // Recordings made by a rule, and their rows listened to one after the other, each on the record that the one before it left.
-ghost use Rattle.std.specs.Prelude.{◌≡◌, ◌≤◌, length};
+ghost use Rattle.std.specs.Prelude.{◌≤◌};
 
-use crate::{heard_by, heard_text};
+use crate::{Way, heard_by, heard_text};
 use minislot::Minislot;
 use rules::{Counters, Listened};
-use runs_text::{text, word};
+use runs_text::text;
 use std::io;
 
 // 480 minislots, one after the other.
@@ -15,59 +15,61 @@ struct Tape {
 }
 
 // The row of a recording from a place up to an end; the second way has all of the recording lent.
-fn row(way: u64, c: Counters, words: &[u16], counts: &[u8], at: usize, end: usize) -> Listened
-    requires { (length words.now ≡ 480) × ((length counts.now ≡ 480) × ((at ≤ end) × (end ≤ 480))) }
+fn row(way: Way, c: Counters, tape: &Tape, at: usize, end: usize) -> Listened
+    requires rising { at ≤ end }
+    requires within { end ≤ 480 }
 {
-    if way == 2 {
-        return heard_by(way, c, words, counts, at);
+    let words = &tape.words;
+    let counts = &tape.counts;
+    match way {
+        Way::Place => heard_by(way, c, words, counts, at),
+        _ => heard_by(way, c, &words[at..end], &counts[at..end], 0),
     }
-    heard_by(way, c, &words[at..end], &counts[at..end], 0)
+}
+
+fn way_text(rt: &impl Print, way: Way) -> io::Result<()> {
+    match way {
+        Way::Value => text(rt, b"value"),
+        Way::Place => text(rt, b"place"),
+        Way::Lent => text(rt, b"lent"),
+    }
 }
 
 // The record of a start, with a calendar set on it.
 fn started(m: u8, n: u8, entries: [u16; 24]) -> Counters {
-    let r = listener::start(m, n);
-    let c = r.counters;
-    let set = listener::set_calendar(c, entries);
-    set.counters
+    listener::set_calendar(listener::start(m, n).counters, entries).counters
 }
 
 // 40 rows of m minislots, one after the other, from a place of the recording, on a record that has a start's counters and m minislots.
 fn rows(
     rt: &impl Print,
-    way: u64,
+    way: Way,
     start: Counters,
     m: u8,
     shown: bool,
-    words: &[u16],
-    counts: &[u8],
+    tape: &Tape,
     first: usize,
 ) -> io::Result<()>
-    requires { (length words.now ≡ 480) × ((length counts.now ≡ 480) × ((m ≤ 8) × (first ≤ 160))) }
+    requires narrow { m ≤ 8 }
+    requires early { first ≤ 160 }
 {
     let mut c = start;
-    let width = m as usize;
     let mut at = first;
-    let mut i: usize = 0;
-    while i < 40 {
-        let end = at + width;
-        let heard = row(way, c, words, counts, at, end);
-        word(rt, b"value place lent ", way)?;
-        heard_text(rt, heard, shown)?;
+    for i in 0..40usize {
+        let end = at + usize::from(m);
+        let heard = row(way, c, tape, at, end);
+        way_text(rt, way)?;
+        heard_text(rt, &heard, shown)?;
         text(rt, b"\n")?;
         c = heard.counters;
         at = end;
-        i += 1;
     }
     Ok(())
 }
 
 // The rule of the recordings: each minislot has a number, and the next one has this.
 fn following(x: usize, p: usize) -> usize {
-    if p == 0 {
-        return 0;
-    }
-    (181 * (x % 2000) + 59) % p
+    (181 * (x % 2000) + 59).checked_rem(p).unwrap_or(0)
 }
 
 // What a minislot of a number has: 0 to 63 a Single, 64 to 127 a Collide, 128 a click, 129 to 131 a refusal 1, 3 and 4, and Empty from
@@ -75,44 +77,28 @@ fn following(x: usize, p: usize) -> usize {
 fn minislot_of(x: usize) -> Minislot {
     let patterns: [u16; 8] = [63, 95, 111, 119, 1365, 2730, 3087, 4032];
     let collided: [u16; 4] = [127, 255, 2047, 4095];
-    if x < 64 {
-        return Minislot {
-            word: patterns[x % 8],
-            count: (x / 8 % 4) as u8 + 1,
-        };
-    }
-    if x < 128 {
-        return Minislot {
-            word: collided[x % 4],
-            count: (x % 4) as u8 + 1,
-        };
-    }
-    match x {
-        128 => Minislot { word: 62, count: 1 },
-        129 => Minislot {
-            word: 4096,
-            count: 0,
-        },
-        130 => Minislot { word: 63, count: 0 },
-        131 => Minislot { word: 0, count: 1 },
-        _ => Minislot { word: 0, count: 0 },
-    }
+    let (word, count) = match x {
+        0..=63 => (patterns[x % 8], (x / 8 % 4) as u8 + 1),
+        64..=127 => (collided[x % 4], (x % 4) as u8 + 1),
+        128 => (62, 1),
+        129 => (4096, 0),
+        130 => (63, 0),
+        131 => (0, 1),
+        _ => (0, 0),
+    };
+    Minislot { word, count }
 }
 
 // The recording that the rule makes with a number.
-fn made(p: usize) -> Tape
-    ensures { (length result.words ≡ 480) × (length result.counts ≡ 480) }
-{
-    let mut words = [0u16; 480];
-    let mut counts = [0u8; 480];
-    let mut x: usize = 1;
-    let mut i: usize = 0;
-    while i < 480 {
+fn made(p: usize) -> Tape {
+    let mut words = [0; 480];
+    let mut counts = [0; 480];
+    let mut x = 1;
+    for (word, count) in words.iter_mut().zip(counts.iter_mut()) {
         let minislot = minislot_of(x);
-        words[i] = minislot.word;
-        counts[i] = minislot.count;
+        *word = minislot.word;
+        *count = minislot.count;
         x = following(x, p);
-        i += 1;
     }
     Tape { words, counts }
 }
@@ -127,11 +113,9 @@ pub(crate) fn recordings(
     shown: bool,
 ) -> io::Result<()> {
     let tape = made(p);
-    let words = tape.words;
-    let counts = tape.counts;
     let width = m % 9;
     let start = started(width, n, entries);
-    rows(rt, 1, start, width, shown, &words, &counts, 0)?;
-    rows(rt, 2, start, width, shown, &words, &counts, 7)?;
-    rows(rt, 3, start, width, shown, &words, &counts, 160)
+    rows(rt, Way::Value, start, width, shown, &tape, 0)?;
+    rows(rt, Way::Place, start, width, shown, &tape, 7)?;
+    rows(rt, Way::Lent, start, width, shown, &tape, 160)
 }

@@ -35,14 +35,12 @@ fn listen_row(c: Counters, row: RowReading) -> Listened
     ensures { result ≡ listen_of c (feedback_of c.minislots row) }
 {
     let one = step_one(c, row);
-    let reached = one.after;
-    let fits = one.fits;
-    if !fits {
+    if !one.fits {
         return refused(c, 7);
     }
     Listened {
-        answer: ListenAnswer::Went(turn(coming(c), reached)),
-        counters: fall(c, reached),
+        answer: ListenAnswer::Went(turn(coming(c), one.after)),
+        counters: fall(c, one.after),
     }
 }
 

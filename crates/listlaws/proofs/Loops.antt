@@ -9,7 +9,8 @@ use native.Mathlib.Numerals.{add-one}
 use native.Mathlib.Omega.{arith}
 use lib.ListN.{length, get_or, take, drop, drop_of_length-le, length-drop}
 use lib.Seq.{drop-cons, get_or-take, length-take-le, take_all}
-use Rattle.listlaws.specs.Lists.{each, each_pair, sum_of, count_of}
+use Rattle.std.specs.List.{list_all}
+use Rattle.listlaws.specs.Lists.{each_pair, sum_of, count_of}
 
 -- ---- the first n of a list, element by element
 
@@ -36,16 +37,16 @@ module _ {A : Type 0} where
 -- ---- tests and sums over what is left
 
 module _ {A : Type 0} {l r : List A} {x : A} (e : l ≡ x ∷ r) where
-  pub each_next : (test : A → Bool) → test x ≡ true → each test l ≡ each test r
+  pub each_next : (test : A → Bool) → test x ≡ true → list_all test l ≡ list_all test r
   each_next test h = rw (e, h)
 
-  pub each_stop : (test : A → Bool) → test x ≡ false → each test l ≡ false
+  pub each_stop : (test : A → Bool) → test x ≡ false → list_all test l ≡ false
   each_stop test h = rw (e, h)
 
-  pub pairs_next : (test : A → A → Bool) → each (test x) r ≡ true → each_pair test l ≡ each_pair test r
+  pub pairs_next : (test : A → A → Bool) → list_all (test x) r ≡ true → each_pair test l ≡ each_pair test r
   pairs_next test h = rw (e, h)
 
-  pub pairs_stop : (test : A → A → Bool) → each (test x) r ≡ false → each_pair test l ≡ false
+  pub pairs_stop : (test : A → A → Bool) → list_all (test x) r ≡ false → each_pair test l ≡ false
   pairs_stop test h = rw (e, h)
 
   pub sum-next : (f : A → ℕ) → sum_of f l ≡ f x + sum_of f r

@@ -1,17 +1,14 @@
--- Tests and sums over a list, as the rules of a table use them. Assumes nothing.
+-- Tests and sums over a list, as the rules of a table use them; the library has more (`list_all`, `flat_map`). Assumes nothing.
+use Rattle.std.specs.List.{list_all}
 use Rattle.std.specs.Prelude.{Bool, true, false, ◌&&◌, cond, List, [], ◌∷◌, ◌++◌, ℕ, zero, suc, ◌+◌, ◌-◌, length, replicate}
 
-module _ {ℓ} {A : Type ℓ} where
-  -- every element passes a test
-  abbrev pub each : (A → Bool) → List A → Bool
-  each test [] = true
-  each test (x ∷ l) = test x && each test l
-
+module _ {A : Type 0} where
   -- every two elements, the earlier first, pass a test
   abbrev pub each_pair : (A → A → Bool) → List A → Bool
   each_pair test [] = true
-  each_pair test (x ∷ l) = each (test x) l && each_pair test l
+  each_pair test (x ∷ l) = list_all (test x) l && each_pair test l
 
+module _ {ℓ} {A : Type ℓ} where
   -- a number for each element, summed
   abbrev pub sum_of : (A → ℕ) → List A → ℕ
   sum_of f [] = 0
@@ -39,8 +36,3 @@ module _ {ℓ} {A : Type ℓ} where
   abbrev pub tabulate : ℕ → (ℕ → A) → List A
   tabulate zero f = []
   tabulate (suc n) f = f 0 ∷ tabulate n (λ i. f (suc i))
-
--- what each element gives, joined in order
-abbrev pub gather_of {ℓ κ} : {A : Type ℓ} {B : Type κ} → (A → List B) → List A → List B
-gather_of f [] = []
-gather_of f (x ∷ l) = f x ++ gather_of f l

@@ -1,12 +1,10 @@
--- The lines of the first stations, one station's after another's: those of the next of them, and none beyond the last; and what a loop keeps that puts several
--- lines in a turn. By the laws of a list's parts and of lines put one after another. Assumes nothing.
+-- What a loop keeps that puts several lines in a turn, and so the lines of one station after another. By the laws of a list's parts and of lines put one after
+-- another. Assumes nothing.
 use mathlib.Core.Path.{◌≡◌, ap, ◌∙◌}
-use mathlib.Core.List.{List, [], ◌∷◌, ◌++◌}
-use Prim.Native.Nat.{ℕ, ◌+◌, ◌≤◌, ◌<◌, min}
-use native.Mathlib.Omega.{arith}
-use lib.ListN.{length, get_or, take, drop, length-take, drop_of_length-le}
-use lib.Seq.{get_or-take}
-use Rattle.listlaws.specs.Lists.{gather_of}
+use mathlib.Core.List.{List, ◌++◌}
+use Prim.Native.Nat.{ℕ, ◌+◌, ◌<◌}
+use lib.ListN.{length, get_or, drop}
+use Rattle.std.specs.List.{flat_map}
 use Rattle.listlaws.proofs.Loops.{rest}
 use Rattle.programs.specs.Buffering.{put_lines, place_after_lines}
 use Rattle.programs.proofs.LineRuns.{Run, lines-size, put-append, place-append}
@@ -21,27 +19,10 @@ run-lines more {b} {b'} {b''} {lines} {rest} {rest'} {i} {j} {k} r e w = record 
   reached = rw (w.0, w.1) (place-append more rest' b' j ∙ (rw e at r.reached));
 }
 
--- the lines of station i of the first `count`, and of those after it
-abbrev pub lines_from : (Station → List (List ℕ)) → ℕ → List Station → ℕ → List (List ℕ)
-lines_from f count stations i = gather_of f (drop i (take count stations))
-
-module _ (f : Station → List (List ℕ)) (count : ℕ) (stations : List Station) (full : length stations ≡ 65) where
-  size : length (take count stations) ≡ min count 65
-  size = length-take count stations ∙ ap (λ (n : ℕ). min count n) full
-
-  module _ (i : ℕ) where
-    next-station : (d : Station) → i < min count 65 → lines_from f count stations i ≡ f (get_or stations i d) ++ lines_from f count stations (i + 1)
-    next-station d h =
-        ap (gather_of f)
-        (rest (take count stations) i d (rw size h)
-        ∙ ap (λ (s : Station). s ∷ drop (i + 1) (take count stations)) (get_or-take count stations i d (omega arith)))
-
-    -- one station's lines more
-    pub run-station : (d : Station) → i < min count 65 → {b b' b'' : List ℕ} {lines : List (List ℕ)} {n j k : ℕ}
-        → Run b n lines b' j (lines_from f count stations i)
-        → (b'' ≡ put_lines b' j (f (get_or stations i d))) × (k ≡ place_after_lines b' j (f (get_or stations i d)))
-        → Run b n lines b'' k (lines_from f count stations (i + 1))
-    run-station d h r w = run-lines (f (get_or stations i d)) r (next-station d h) w
-
-    pub no-station : min count 65 ≤ i → lines_from f count stations i ≡ []
-    no-station h = let k : length (take count stations) ≤ i = rw size h in ap (gather_of f) (drop_of_length-le (take count stations) k)
+-- one station's lines more
+module _ (f : Station → List (List ℕ)) (stations : List Station) (i : ℕ) where
+  pub run-station : (d : Station) → i < length stations → {b b' b'' : List ℕ} {lines : List (List ℕ)} {n j k : ℕ}
+      → Run b n lines b' j (flat_map f (drop i stations))
+      → (b'' ≡ put_lines b' j (f (get_or stations i d))) × (k ≡ place_after_lines b' j (f (get_or stations i d)))
+      → Run b n lines b'' k (flat_map f (drop (i + 1) stations))
+  run-station d h r w = run-lines (f (get_or stations i d)) r (ap (flat_map f) (rest stations i d h)) w

@@ -3,7 +3,7 @@
 #![tactic(auto)]
 
 ghost use Rattle.std.specs.Prelude.{◌≡◌, take};
-ghost use Rattle.listlaws.specs.Lists.{gather_of};
+ghost use Rattle.std.specs.List.{flat_map};
 ghost use Rattle.condition_lines.specs.ConditionLines.{condition_line};
 ghost use Rattle.decimals.specs.Putting.{put_at, place_after};
 ghost use Rattle.programs.specs.Buffering.{put_lines, place_after_lines};
@@ -21,8 +21,7 @@ fn put_message(out: &mut [u8], at: usize, call: u64, index: u16, message: Messag
     ensures buffer { out.new ≡ put_at out.old at (condition_line call index message.condition) }
     ensures reached { result ≡ place_after out.old at (condition_line call index message.condition) }
 {
-    let condition = message.condition;
-    match condition {
+    match message.condition {
         Condition::Free => put_free(out, at, call, index),
         Condition::Fresh { total } => put_fresh(out, at, call, index, total),
         Condition::Asked {
@@ -44,15 +43,12 @@ fn put_message(out: &mut [u8], at: usize, call: u64, index: u16, message: Messag
 }
 
 // A station's two lines: its short record's, then its long record's.
-fn put_station(out: &mut [u8], at: usize, call: u64, s: Station) -> usize
-    ensures buffer { out.new ≡ put_lines out.old at (message_lines call s) }
-    ensures reached { result ≡ place_after_lines out.old at (message_lines call s) }
+fn put_station(out: &mut [u8], at: usize, call: u64, s: &Station) -> usize
+    ensures buffer { out.new ≡ put_lines out.old at (message_lines call s.now) }
+    ensures reached { result ≡ place_after_lines out.old at (message_lines call s.now) }
 {
-    let index = s.index;
-    let short = s.short;
-    let long = s.long;
-    let second = put_message(out, at, call, index, short);
-    put_message(out, second, call, index, long)
+    let second = put_message(out, at, call, s.index, s.short);
+    put_message(out, second, call, s.index, s.long)
 }
 
 // The lines of each of the first `count` stations, or of all 65 where there are no more.
@@ -63,15 +59,12 @@ pub fn put_messages(
     stations: [Station; 65],
     count: usize,
 ) -> usize
-    ensures buffer { out.new ≡ put_lines out.old at (gather_of (message_lines call) (take count stations)) }
-    ensures reached { result ≡ place_after_lines out.old at (gather_of (message_lines call) (take count stations)) }
+    ensures buffer { out.new ≡ put_lines out.old at (flat_map (message_lines call) (take count stations)) }
+    ensures reached { result ≡ place_after_lines out.old at (flat_map (message_lines call) (take count stations)) }
 {
-    let end = least(count, 65);
     let mut to = at;
-    let mut i: usize = 0;
-    while i < end {
-        to = put_station(out, to, call, stations[i]);
-        i += 1;
+    for s in &stations[..least(count, 65)] {
+        to = put_station(out, to, call, s);
     }
     to
 }

@@ -24,10 +24,7 @@ const NOBODY: u16 = 65535;
 fn behind(others: u16, place: u16) -> u32
     ensures { result ≡ others + (place - 1) }
 {
-    if place == 0 {
-        return others as u32;
-    }
-    (others as u32) + ((place - 1) as u32)
+    u32::from(others) + u32::from(place.saturating_sub(1))
 }
 
 // The places of a condition, where the urgent queue has h.
@@ -35,10 +32,6 @@ pub fn places_had(h: u16, condition: Condition) -> Had
     ensures { result ≡ places_had h condition }
 {
     match condition {
-        Condition::Free => NONE,
-        Condition::Fresh { .. } => NONE,
-        Condition::Asked { .. } => NONE,
-        Condition::Resolving { .. } => NONE,
         Condition::Urgent { place } => Had {
             first: behind(0, place),
             count: 1,
@@ -47,7 +40,7 @@ pub fn places_had(h: u16, condition: Condition) -> Had
             first: behind(h, first),
             count: left,
         },
-        Condition::Held { .. } => NONE,
+        _ => NONE,
     }
 }
 

@@ -6,7 +6,7 @@ ghost use Rattle.std.specs.Prelude.{◌≡◌};
 ghost use Rattle.minislot.specs.Reading.{reading_of, single_of, empty_of, reading_answer, reading_answer_of};
 
 // What a minislot carries: the OR of its senders' words and of their counts.
-#[derive(Clone, Copy)]
+#[derive(Clone, Copy, PartialEq, Eq)]
 pub struct Minislot {
     pub word: u16,
     pub count: u8,

@@ -8,6 +8,7 @@ ghost use Rattle.rules.specs.OwnHearing.{hears_here, hears_elsewhere, hears_at};
 
 use minislot::Feedback;
 
+#[tactic(auto, unfolding(pattern::specs::Ones::contains_ones))]
 fn contains(word: u16, own: u16) -> bool
     ensures { result ≡ contains_ones word own }
 {
@@ -20,7 +21,7 @@ fn hears_here(index: u16, total: u8, word: u16, f: Feedback) -> bool
 {
     match f {
         Feedback::Empty => false,
-        Feedback::Single(i, c) => if i == index { c == total } else { false },
+        Feedback::Single(i, c) => i == index && c == total,
         Feedback::Collide => contains(word, wording::word_of(index)),
     }
 }
@@ -30,9 +31,8 @@ fn hears_elsewhere(index: u16, f: Feedback) -> bool
     ensures { result ≡ hears_elsewhere index f }
 {
     match f {
-        Feedback::Empty => true,
         Feedback::Single(i, _) => i != index,
-        Feedback::Collide => true,
+        _ => true,
     }
 }
 

@@ -54,14 +54,11 @@ pub fn landings(success: bool, before: Places, row: [MinislotFeedback; 8], m: u8
         landing: Landing::Gone,
     }; 8];
     let mut p = before;
-    let mut j: usize = 0;
-    while j < n {
-        let slot = row[j];
-        let f = slot.feedback;
+    for j in 0..n {
+        let f = row[j].feedback;
         let landing = land(success, p, f);
         landed[j] = Landed { landing };
         p = queue(success, p, f);
-        j += 1;
     }
     landed
 }

@@ -14,7 +14,8 @@ use lib.Seq.{sets}
 use Rattle.fields.specs.Fields.{every, numeral}
 use Rattle.listlaws.specs.Lists.{padded}
 use Rattle.listlaws.proofs.Loops.{rest}
-use Rattle.number_lists.specs.NumberList.{low_byte, list_with, list_of}
+use Rattle.number_lists.specs.declared.NumberList.{NumberList}
+use Rattle.number_lists.specs.NumberList.{low_byte, list_with}
 use Rattle.number_lists.proofs.Listing.{sets-padded}
 use Rattle.number_lists.proofs.ListLaws.{and_both, Listed, numbers-within}
 
@@ -40,7 +41,7 @@ low_same (v ∷ l) e =
     let k : v ≤ 255 = leb-true v 255 b.0 in
     rw (mod-eq_of_lt {n = v} {m = 256} (omega arith), low_same l b.1)
 
--- a list that is not answered 19, read with a `most` of at most 255: all its array stays
+-- a list that is answered, read with a `most` of at most 255: all its array stays
 within_higher : (a b : ℕ) → a ≤ b → (l : List ℕ) → every (λ (v : ℕ). leb v a) l ≡ true → every (λ (v : ℕ). leb v b) l ≡ true
 unfolding every
 within_higher a b h [] e = refl
@@ -56,12 +57,12 @@ low_zeros (suc n) = ap (λ (l : List ℕ). 0 ∷ l) (low_zeros n)
 low-padded : (n : ℕ) (l : List ℕ) → map low_byte l ≡ l → map low_byte (padded n 0 l) ≡ padded n 0 l
 low-padded n l e = map-append low_byte l (replicate (n - length l) 0) ∙ rw (e, low_zeros (n - length l))
 
-pub low-list : {most : ℕ} {ps : List (List ℕ)} → most ≤ 255 → Listed most ps → map low_byte (list_of most ps).values ≡ (list_of most ps).values
+pub low-list : {most : ℕ} {ps : List (List ℕ)} {l : NumberList} → most ≤ 255 → Listed most ps l → map low_byte l.values ≡ l.values
 unfolding list_with
 low-list {most} {ps} h g =
-    rw g.whole (low-padded 256 (map numeral ps) (low_same (map numeral ps) (within_higher most 255 h (map numeral ps) (numbers-within most ps g.each))))
+    rw g.whole (low-padded 256 (map numeral ps) (low_same (map numeral ps) (within_higher most 255 h (map numeral ps) (numbers-within most ps g.list_all))))
 
 -- and so the numbers are in the front of the bytes
-pub low-used : {most : ℕ} {ps : List (List ℕ)} → most ≤ 255 → Listed most ps
-    → take (list_of most ps).count (map low_byte (list_of most ps).values) ≡ map numeral ps
+pub low-used : {most : ℕ} {ps : List (List ℕ)} {l : NumberList} → most ≤ 255 → Listed most ps l
+    → take l.count (map low_byte l.values) ≡ map numeral ps
 low-used h g = rw (low-list h g) g.used

@@ -3,17 +3,16 @@
 
 #![tactic(auto)]
 
-ghost use Rattle.std.specs.Prelude.{◌≡◌, map, [], ◌≤◌, drop};
+ghost use Rattle.std.specs.Prelude.{◌≡◌, map, [], ◌≤◌, drop, IfSome};
 ghost use Rattle.fields.specs.Fields.{parts};
-ghost use Rattle.number_lists.specs.NumberList.{list_of, list_with, whole_list, broken_list, low_byte};
+ghost use Rattle.number_lists.specs.NumberList.{list_of, list_with, low_byte};
 
-use fields::{Field, field_at};
+use fields::field_at;
 
-// The numbers of the fields of a record from a place on: number 0, how many there are, and the numbers (0 where there are fewer);
-// or number 19 and nothing else.
+// The numbers of the fields of a record from a place on: how many there are, and the numbers (0 where there are fewer).
+// The array stays beside its count: `list_with` tells what stands behind the numbers, and nothing is allocated here.
 #[derive(Clone, Copy)]
 pub struct NumberList {
-    pub number: u8,
     pub count: usize,
     pub values: [u16; 256],
 }
@@ -21,60 +20,39 @@ pub struct NumberList {
 // No more numbers than this: a record of 512 bytes has no more fields.
 const MOST: usize = 256;
 
-fn broken_list() -> NumberList
-    ensures { result ≡ broken_list }
+// No numbers.
+pub fn no_numbers() -> NumberList
+    ensures { result ≡ list_with [] }
 {
     NumberList {
-        number: 19,
         count: 0,
         values: [0u16; 256],
     }
 }
 
-fn whole_list(count: usize, values: [u16; 256]) -> NumberList
-    ensures { result ≡ whole_list count values }
-{
-    NumberList {
-        number: 0,
-        count,
-        values,
-    }
-}
-
-// No numbers.
-pub fn no_numbers() -> NumberList
-    ensures { result ≡ list_with [] }
-{
-    whole_list(0, [0u16; 256])
-}
-
-// The fields from place start on, each a number of at most `most`. 19: a field breaks the form or is above `most`, or there are more
+// The fields from place start on, each a number of at most `most`. None: a field breaks the form or is above `most`, or there are more
 // than 256.
-pub fn numbers_from(bytes: &[u8], start: usize, most: u16) -> NumberList
+pub fn numbers_from(bytes: &[u8], start: usize, most: u16) -> Option<NumberList>
     ensures list { result ≡ list_of most (parts (drop start bytes.now)) }
-    ensures count { result.count ≤ 256 }
+    ensures count { IfSome result (λ l. l.count ≤ 256) }
 {
     let mut values = [0u16; 256];
-    let mut count: usize = 0;
     let mut at = start;
-    loop {
-        let field = field_at(bytes, at);
-        let Field::Number(value, next, last) = field else {
-            return broken_list();
-        };
-        if (most as u32) < value {
-            return broken_list();
+    for read in 0..MOST {
+        let field = field_at(bytes, at)?;
+        if u32::from(most) < field.value {
+            return None;
         }
-        if count == MOST {
-            return broken_list();
+        values[read] = field.value as u16;
+        if field.last {
+            return Some(NumberList {
+                count: read + 1,
+                values,
+            });
         }
-        values[count] = value as u16;
-        count += 1;
-        if last {
-            return whole_list(count, values);
-        }
-        at = next;
+        at = field.next;
     }
+    None
 }
 
 // The same numbers as bytes, for a list whose numbers were read with a `most` of 255.
@@ -82,10 +60,8 @@ pub fn low_bytes(values: [u16; 256]) -> [u8; 256]
     ensures { result ≡ map low_byte values }
 {
     let mut bytes = [0u8; 256];
-    let mut i: usize = 0;
-    while i < 256 {
-        bytes[i] = (values[i] % 256) as u8;
-        i += 1;
+    for (i, value) in values.iter().enumerate() {
+        bytes[i] = (value % 256) as u8;
     }
     bytes
 }

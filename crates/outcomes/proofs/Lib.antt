@@ -1,2 +1,1 @@
-mod Minislots
 mod Fitting

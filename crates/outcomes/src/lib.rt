@@ -23,15 +23,8 @@ fn success_in(success: bool, f: Feedback) -> u8
     ensures one { result ≤ 1 }
 {
     match f {
-        Feedback::Empty => 0,
-        Feedback::Single(_, count) => {
-            if success {
-                if count == 1 { 1 } else { 0 }
-            } else {
-                0
-            }
-        }
-        Feedback::Collide => 0,
+        Feedback::Single(_, count) if success && count == 1 => 1,
+        _ => 0,
     }
 }
 
@@ -40,12 +33,8 @@ fn successes_in(success: bool, row: [MinislotFeedback; 8], m: u8) -> u8
     ensures { result ≡ successes success (take m (feedback_in row)) }
 {
     let mut total: u8 = 0;
-    let mut j = held(m);
-    while 0 < j {
-        j -= 1;
-        let slot = row[j];
-        let f = slot.feedback;
-        total += success_in(success, f);
+    for minislot in &row[..held(m)] {
+        total += success_in(success, minislot.feedback);
     }
     total
 }
@@ -55,16 +44,12 @@ pub fn outcome(c: Counters, row: RowReading, one: StepOne) -> Outcome
     requires { Countable c row one }
     ensures { result ≡ outcome_of c (feedback_of c.minislots row) }
 {
-    let minislots = row.minislots;
-    let before = one.before;
-    let after = one.after;
-    let m = c.minislots;
     Outcome {
         group: c.next,
-        turn: turn(coming(c), after),
-        resolution: after.resolution,
-        landed: landings(one.success, before, minislots, m),
-        counters: fall(c, after),
-        delivered: successes_in(one.success, minislots, m),
+        turn: turn(coming(c), one.after),
+        resolution: one.after.resolution,
+        landed: landings(one.success, one.before, row.minislots, c.minislots),
+        counters: fall(c, one.after),
+        delivered: successes_in(one.success, row.minislots, c.minislots),
     }
 }

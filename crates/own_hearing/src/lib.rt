@@ -15,17 +15,12 @@ fn own_minislot(g: u8, k: Condition) -> u8
     ensures { result ≡ own_minislot g k }
 {
     match k {
-        Condition::Free => 0,
-        Condition::Fresh { .. } => 0,
         Condition::Asked {
             group,
             minislot,
             ..
-        } => if group == g { minislot } else { 0 },
-        Condition::Resolving { .. } => 0,
-        Condition::Urgent { .. } => 0,
-        Condition::Long { .. } => 0,
-        Condition::Held { .. } => 0,
+        } if group == g => minislot,
+        _ => 0,
     }
 }
 
@@ -34,13 +29,8 @@ fn own_total(k: Condition) -> u8
     ensures { result ≡ own_total k }
 {
     match k {
-        Condition::Free => 0,
-        Condition::Fresh { .. } => 0,
         Condition::Asked { total, .. } => total,
-        Condition::Resolving { .. } => 0,
-        Condition::Urgent { .. } => 0,
-        Condition::Long { .. } => 0,
-        Condition::Held { .. } => 0,
+        _ => 0,
     }
 }
 
@@ -48,26 +38,18 @@ fn own_total(k: Condition) -> u8
 fn listened(g: u8, s: Station) -> Condition
     ensures { result ≡ listens g s }
 {
-    let a = s.short;
-    let b = s.long;
-    let short = a.condition;
-    let long = b.condition;
-    if own_minislot(g, short) == 0 {
-        long
+    if own_minislot(g, s.short.condition) == 0 {
+        s.long.condition
     } else {
-        short
+        s.short.condition
     }
 }
 
 // How many of m minislots are heard: those that have a word, and no more than a row holds.
-fn heard(m: u8, words: usize) -> u8
+fn heard(m: u8, words: usize) -> usize
     ensures { result ≡ min (min m words) 8 }
 {
-    let most = if m < 8 { m } else { 8 };
-    if words < most as usize {
-        return words as u8;
-    }
-    most
+    usize::from(m).min(words).min(8)
 }
 
 // What a station must hear of itself in a row: its words, and what they read as.
@@ -77,15 +59,8 @@ pub fn hears_itself(s: Station, words: &[u16], row: [MinislotFeedback; 8]) -> bo
     let k = listened(s.counters.next, s);
     let own = own_minislot(s.counters.next, k);
     let total = own_total(k);
-    let end = heard(s.counters.minislots, words.len());
-    let mut j: u8 = 0;
-    while j < end {
-        let i = j as usize;
-        let slot = row[i];
-        let f = slot.feedback;
-        if hears_at(s.index, own, total, j + 1, words[i], f) {
-            j += 1;
-        } else {
+    for i in 0..heard(s.counters.minislots, words.len()) {
+        if !hears_at(s.index, own, total, i as u8 + 1, words[i], row[i].feedback) {
             return false;
         }
     }

@@ -26,10 +26,7 @@ pub enum Failure {
 // Writes the bytes before place at.
 pub fn flush(writer: &mut impl Write, out: &[u8], at: usize) -> Result<(), Failure> {
     let n = count_first(at, out);
-    match writer.write_all(&out[..n]) {
-        Ok(()) => Ok(()),
-        Err(error) => Err(Failure::Output(error)),
-    }
+    writer.write_all(&out[..n]).map_err(Failure::Output)
 }
 
 // Reads on, behind the bytes that are kept. Where that fails, what the output buffer holds is written before it is told.
@@ -62,8 +59,7 @@ pub fn serve(
     input: &mut [u8],
     out: &[u8],
 ) -> Result<Served, Failure> {
-    let wants = s.wants;
-    match wants {
+    match s.wants {
         Wants::Read => read_on(reader, writer, s, input, out),
         Wants::Write => {
             flush(writer, out, s.at)?;
@@ -90,10 +86,7 @@ pub fn open_named<R: Files>(rt: &R, name: &[u8]) -> Result<R::File, Failure> {
         let kind = ErrorKind::InvalidFilename;
         return Err(Failure::Input(io::Error::new(kind, "the name is not UTF-8 text")));
     };
-    match fs::open(rt, text) {
-        Ok(file) => Ok(file),
-        Err(error) => Err(Failure::Input(error)),
-    }
+    fs::open(rt, text).map_err(Failure::Input)
 }
 
 // The system's number of a name that is too long.

@@ -11,7 +11,8 @@ use lib.Dec.{eqb, leb, ltb}
 use lib.ListN.{length}
 use borrow.Author.Tests.{lt-ltb, le-leb, lt-leb, eqb-true, eqb-false, ne_eqb, ltb-false, leb-true}
 use Rattle.minislot.specs.declared.Feedback.{Feedback}
-use Rattle.listlaws.specs.Lists.{only_if, gather_of}
+use Rattle.std.specs.List.{flat_map}
+use Rattle.listlaws.specs.Lists.{only_if}
 use Rattle.rules.specs.declared.Answer.TheVariants.{Went}
 use Rattle.rules.specs.declared.Acted.{Acted}
 use Rattle.rules.specs.declared.Counters.{Counters}
@@ -116,17 +117,17 @@ module _ (seg : Condition → ℕ) where
         (beside-acts s.short.condition s.long.condition pick))
         ∙ ap (λ (b : Bool). only_if b (record { index = s.index; segment = sent_by s } ∷ [])) (heard s.index (sent_by s))
 
-    pub all_send : (l : List Station) (picks : List ℕ) → length picks ≡ length l → data_sent (steps_by o l picks) ≡ gather_of data_by l
+    pub all_send : (l : List Station) (picks : List ℕ) → length picks ≡ length l → data_sent (steps_by o l picks) ≡ flat_map data_by l
     all_send [] picks e = refl
     all_send (s ∷ l) [] e = absurd (omega arith)
     all_send (s ∷ l) (pick ∷ picks) e = λ i. step-sends s pick i ++ all_send l picks (omega arith) i
 
   -- where one message sends, its station's data is all
-  none-sends : (l : List Station) → how_many sending l ≡ 0 → gather_of data_by l ≡ []
+  none-sends : (l : List Station) → how_many sending l ≡ 0 → flat_map data_by l ≡ []
   none-sends [] e = refl
   none-sends (s ∷ l) e = go (none-sends l) (ltb 0 (seg s.short.condition)) refl (ltb 0 (seg s.long.condition)) refl e
     where
-      go : (how_many sending l ≡ 0 → gather_of data_by l ≡ []) → (a : Bool) → ltb 0 (seg s.short.condition) ≡ a → (b : Bool) → ltb 0 (seg s.long.condition) ≡ b → cond a 1 0 + (cond b 1 0 + how_many sending l) ≡ 0 → data_by s ++ gather_of data_by l ≡ []
+      go : (how_many sending l ≡ 0 → flat_map data_by l ≡ []) → (a : Bool) → ltb 0 (seg s.short.condition) ≡ a → (b : Bool) → ltb 0 (seg s.long.condition) ≡ b → cond a 1 0 + (cond b 1 0 + how_many sending l) ≡ 0 → data_by s ++ flat_map data_by l ≡ []
       go ih true x b y w = absurd (omega arith)
       go ih false x true y w = absurd (omega arith)
       go ih false x false y w =
@@ -148,7 +149,7 @@ module _ (seg : Condition → ℕ) where
   some_send (s ∷ l) (suc k) w h = let z = some_send l k w (omega arith) in omega (arith, z)
 
   pub one-sends : (l : List Station) → how_many sending l ≡ 1 → (k : ℕ) → k < length l → ltb 0 (sent_by (station_at l k)) ≡ true
-      → gather_of data_by l ≡ record { index = (station_at l k).index; segment = sent_by (station_at l k) } ∷ []
+      → flat_map data_by l ≡ record { index = (station_at l k).index; segment = sent_by (station_at l k) } ∷ []
   one-sends [] e k h w = absurd (omega arith)
   one-sends (s ∷ l) e zero h w =
       let z = sent-some s (sending s.short.condition) (sending s.long.condition) refl refl w in
@@ -158,9 +159,9 @@ module _ (seg : Condition → ℕ) where
       there : 1 ≤ how_many sending l
       there = some_send l k w (omega arith)
 
-      go : (how_many sending l ≡ 1 → gather_of data_by l ≡ record { index = (station_at l k).index; segment = sent_by (station_at l k) } ∷ []) → (a : Bool) → sending s.short.condition ≡ a → (b : Bool) → sending s.long.condition ≡ b
+      go : (how_many sending l ≡ 1 → flat_map data_by l ≡ record { index = (station_at l k).index; segment = sent_by (station_at l k) } ∷ []) → (a : Bool) → sending s.short.condition ≡ a → (b : Bool) → sending s.long.condition ≡ b
           → cond a 1 0 + (cond b 1 0 + how_many sending l) ≡ 1
-          → data_by s ++ gather_of data_by l ≡ record { index = (station_at l k).index; segment = sent_by (station_at l k) } ∷ []
+          → data_by s ++ flat_map data_by l ≡ record { index = (station_at l k).index; segment = sent_by (station_at l k) } ∷ []
       go ih true x b y q = absurd (let z = there in omega (arith, q, z))
       go ih false x true y q = absurd (let z = there in omega (arith, q, z))
       go ih false x false y q = rw (sent-none s x y) (ih (omega (arith, q)))

@@ -9,7 +9,7 @@ use native.Mathlib.Omega.{arith}
 use lib.ListN.{length, get_or, length-map}
 use borrow.Author.Tests.{eqb-true}
 use Rattle.minislot.specs.declared.Minislot.{Minislot}
-use Rattle.listlaws.specs.Lists.{each}
+use Rattle.std.specs.List.{list_all}
 use Rattle.listlaws.specs.Steps.{each_with}
 use Rattle.rules.specs.declared.Counters.{Counters}
 use Rattle.rules.specs.declared.Outcome.{Outcome}
@@ -45,13 +45,13 @@ abbrev pub steps_by : Outcome → List Station → List ℕ → List StationSlot
 steps_by o l picks = each_with (step_of o) l picks
 
 module _ (o : Outcome) (words counts : List ℕ) (m : ℕ) where
-  slots-step : (l : List Station) (picks : List ℕ) → length picks ≡ length l → each (λ (pick : ℕ). between 1 pick m) picks ≡ true
+  slots-step : (l : List Station) (picks : List ℕ) → length picks ≡ length l → list_all (λ (pick : ℕ). between 1 pick m) picks ≡ true
       → ((k : ℕ) → k < length l → (pick : ℕ) → between 1 pick m ≡ true → slot_of (station_at l k) words counts pick ≡ step_of o (station_at l k) pick)
       → slots_of words counts l picks ≡ steps_by o l picks
   slots-step [] picks e w goes = refl
   slots-step (s ∷ l) [] e w goes = refl
   slots-step (s ∷ l) (pick ∷ picks) e w goes =
-      let (here, rest) = and_both (between 1 pick m) (each (λ (pick : ℕ). between 1 pick m) picks) w in
+      let (here, rest) = and_both (between 1 pick m) (list_all (λ (pick : ℕ). between 1 pick m) picks) w in
       λ i. goes zero (omega arith) pick here i ∷ slots-step l picks (omega arith) rest (λ k h. goes (suc k) (omega arith)) i
 
 step-at : (o : Outcome) (l : List Station) (picks : List ℕ) → length picks ≡ length l → (k : ℕ) → k < length l

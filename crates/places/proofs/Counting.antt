@@ -10,7 +10,8 @@ use native.Mathlib.Decide.{dec_lt}
 use lib.Dec.{eqb}
 use lib.ListN.{length}
 use borrow.Author.Tests.{eqb-true, eqb-false, eq-eqb, ne_eqb}
-use Rattle.listlaws.specs.Lists.{each, each_pair, count_of}
+use Rattle.std.specs.List.{list_all}
+use Rattle.listlaws.specs.Lists.{each_pair, count_of}
 use Rattle.listlaws.proofs.Totals.{total, total-add, total_zero, total-full, total-ones}
 use Rattle.places.specs.Places.{differ}
 
@@ -63,28 +64,28 @@ times_none H (x ∷ l) p = rw (ne_eqb 0 x (λ e. omega (arith, p.0))) (omega (ar
 
 -- ---- no two alike
 
-pub differ-none : (x : ℕ) (l : List ℕ) → each (differ x) l ≡ true → times x l ≡ 0
+pub differ-none : (x : ℕ) (l : List ℕ) → list_all (differ x) l ≡ true → times x l ≡ 0
 differ-none x [] e = refl
 differ-none x (y ∷ l) e = go (eqb x y) e (differ-none x l)
   where
-    go : (b : Bool) → not b && each (differ x) l ≡ true → (each (differ x) l ≡ true → times x l ≡ 0) → cond b 1 0 + times x l ≡ 0
+    go : (b : Bool) → not b && list_all (differ x) l ≡ true → (list_all (differ x) l ≡ true → times x l ≡ 0) → cond b 1 0 + times x l ≡ 0
     go true e ih = cc
     go false e ih = omega (arith, ih e)
 
-pub none_differ : (x : ℕ) (l : List ℕ) → times x l ≡ 0 → each (differ x) l ≡ true
+pub none_differ : (x : ℕ) (l : List ℕ) → times x l ≡ 0 → list_all (differ x) l ≡ true
 none_differ x [] e = refl
 none_differ x (y ∷ l) e = go (eqb x y) e (none_differ x l)
   where
-    go : (b : Bool) → cond b 1 0 + times x l ≡ 0 → (times x l ≡ 0 → each (differ x) l ≡ true) → not b && each (differ x) l ≡ true
+    go : (b : Bool) → cond b 1 0 + times x l ≡ 0 → (times x l ≡ 0 → list_all (differ x) l ≡ true) → not b && list_all (differ x) l ≡ true
     go true e ih = absurd (omega arith)
     go false e ih = ih (omega arith)
 
 pub pairs-once : (l : List ℕ) → each_pair differ l ≡ true → (i : ℕ) → times i l ≤ 1
 pairs-once [] e i = omega arith
-pairs-once (x ∷ l) e i = go (eqb i x) refl (pairs-once l ((and-eq-true_iff (each (differ x) l) (each_pair differ l)).0 e).1 i)
+pairs-once (x ∷ l) e i = go (eqb i x) refl (pairs-once l ((and-eq-true_iff (list_all (differ x) l) (each_pair differ l)).0 e).1 i)
   where
     go : (b : Bool) → eqb i x ≡ b → times i l ≤ 1 → cond b 1 0 + times i l ≤ 1
-    go true w ih = rw (eqb-true i x w) (omega (arith, differ-none x l ((and-eq-true_iff (each (differ x) l) (each_pair differ l)).0 e).0))
+    go true w ih = rw (eqb-true i x w) (omega (arith, differ-none x l ((and-eq-true_iff (list_all (differ x) l) (each_pair differ l)).0 e).0))
     go false w ih = omega arith
 
 pub once-pairs : (l : List ℕ) → ((i : ℕ) → times i l ≤ 1) → each_pair differ l ≡ true

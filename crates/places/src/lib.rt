@@ -4,35 +4,25 @@
 #![tactic(auto)]
 
 ghost use Rattle.std.specs.Prelude.{◌≡◌};
-ghost use Rattle.listlaws.specs.Lists.{each, each_pair};
+ghost use Rattle.std.specs.List.{list_all};
+ghost use Rattle.listlaws.specs.Lists.{each_pair};
 ghost use Rattle.places.specs.Places.{differ, taken_once};
 
 // Whether a number is none of a list.
 pub fn differs(x: u16, numbers: &[u16]) -> bool
-    ensures { result ≡ each (differ x) numbers.now }
+    ensures { result ≡ list_all (differ x) numbers.now }
 {
-    let mut i: usize = 0;
-    while i < numbers.len() {
-        if x == numbers[i] {
-            return false;
-        }
-        i += 1;
-    }
-    true
+    numbers.iter().all(|y| x != *y)
 }
 
 // Whether no two numbers of a list are equal.
 pub fn distinct(numbers: &[u16]) -> bool
     ensures { result ≡ each_pair differ numbers.now }
 {
-    let mut i: usize = 0;
-    while i < numbers.len() {
-        let x = numbers[i];
-        let rest = i + 1;
-        if !differs(x, &numbers[rest..]) {
+    for (i, x) in numbers.iter().enumerate() {
+        if !differs(*x, &numbers[i + 1..]) {
             return false;
         }
-        i += 1;
     }
     true
 }
@@ -41,8 +31,5 @@ pub fn distinct(numbers: &[u16]) -> bool
 pub fn taken_once(places: &[u16], queue: u16) -> bool
     ensures { result ≡ taken_once places.now queue }
 {
-    if places.len() != queue as usize {
-        return false;
-    }
-    distinct(places)
+    places.len() == queue as usize && distinct(places)
 }

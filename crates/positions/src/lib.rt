@@ -2,24 +2,29 @@
 
 #![tactic(auto)]
 
-ghost use Rattle.std.specs.Prelude.{◌≡◌, take};
+ghost use Rattle.std.specs.Prelude.{◌≡◌, eqb, position, take};
 ghost use Rattle.channel_rules.specs.Soundness.{position_of};
 
 use drawing::least;
 use rules::Station;
 
+// The place of the first station of an index.
+fn first_of(stations: &[Station], index: u16) -> Option<usize>
+    ensures { result ≡ position (λ s. eqb s.index index) stations.now }
+{
+    stations.iter().position(|s| s.index == index)
+}
+
+// How many stations stand before it; all of them if there is none.
+fn stands_at(stations: &[Station], index: u16) -> usize
+    ensures { result ≡ position_of index stations.now }
+{
+    first_of(stations, index).unwrap_or(stations.len())
+}
+
 // How many of the first n stations stand before the first of an index; all of them if there is none.
 pub fn position_of(stations: [Station; 64], n: usize, index: u16) -> usize
     ensures { result ≡ position_of index (take n stations) }
 {
-    let end = least(n, 64);
-    let mut i: usize = 0;
-    while i < end {
-        let s = stations[i];
-        if s.index == index {
-            return i;
-        }
-        i += 1;
-    }
-    end
+    stands_at(&stations[..least(n, 64)], index)
 }

@@ -1,28 +1,37 @@
--- A word in front of a list, at the place that a loop has reached: one law for each way that the next byte, or the end, can go.
+-- A word in front of a list, as the library's tests of two lists have it: in the front of the list element by element, or all of it.
 -- Assumes nothing.
-use mathlib.Core.Bool.{true, false}
-use mathlib.Core.Path.{◌≡◌, refl}
-use mathlib.Core.List.{List}
-use Prim.Native.Nat.{ℕ, ◌+◌, ◌<◌, ◌≤◌}
-use borrow.Author.Tests.{eq-eqb, ne_eqb}
-use lib.ListN.{length, get_or, drop, drop_of_length-le}
-use Rattle.listlaws.proofs.Loops.{rest}
+use mathlib.Core.Bool.{Bool, true, false, ◌&&◌, and-false}
+use mathlib.Core.Path.{◌≡◌, refl, sym, ◌∙◌}
+use mathlib.Core.List.{List, [], ◌∷◌}
+use Prim.Native.Nat.{ℕ, suc}
+use native.Mathlib.Omega.{arith}
+use borrow.Author.Tests.{eq-eqb, ne_eqb, eqb-true, eqb-false}
+use lib.Dec.{eqb, eqb-suc-suc}
+use lib.ListN.{length, take}
+use lib.Pointwise.{pointwise}
 use Rattle.prefixes.specs.Prefix.{prefixed}
 
-module _ (word l : List ℕ) (at : ℕ) where
-  pub word_over : length word ≤ at → prefixed (drop at word) (drop at l) ≡ true
-  unfolding prefixed
-  word_over h = rw (drop_of_length-le word h)
+eqb-flip : (a b : ℕ) → eqb a b ≡ eqb b a
+eqb-flip a b = go (eqb a b) refl
+  where
+    go : (t : Bool) → eqb a b ≡ t → eqb a b ≡ eqb b a
+    go true e = e ∙ sym (eq-eqb b a (sym (eqb-true a b e)))
+    go false e = e ∙ sym (ne_eqb b a (λ f. eqb-false a b e (sym f)))
 
-  module _ (h : at < length word) where
-    pub list_over : length l ≤ at → prefixed (drop at word) (drop at l) ≡ false
-    unfolding prefixed
-    list_over k = rw (rest word at 0 h, drop_of_length-le l k)
+pub starts-prefixed : (word l : List ℕ) → pointwise eqb word (take (length word) l) ≡ prefixed word l
+unfolding prefixed
+starts-prefixed [] l = refl
+starts-prefixed (w ∷ word) [] = refl
+starts-prefixed (w ∷ word) (b ∷ l) = rw (eqb-flip w b, starts-prefixed word l)
 
-    pub byte-differs : at < length l → (get_or l at 0 ≡ get_or word at 0 → ⊥) → prefixed (drop at word) (drop at l) ≡ false
-    unfolding prefixed
-    byte-differs k e = rw (rest word at 0 h, rest l at 0 k, ne_eqb _ _ e)
+swapped : (a b c : Bool) → (a && (b && c)) ≡ (b && (a && c))
+swapped true b c = refl
+swapped false b c = sym (and-false b)
 
-    pub byte-same : at < length l → get_or l at 0 ≡ get_or word at 0 → prefixed (drop at word) (drop at l) ≡ prefixed (drop (at + 1) word) (drop (at + 1) l)
-    unfolding prefixed
-    byte-same k e = rw (rest word at 0 h, rest l at 0 k, eq-eqb _ _ e)
+pub same-word : (l word : List ℕ) → pointwise eqb l word ≡ (eqb (length l) (length word) && prefixed word l)
+unfolding prefixed
+same-word [] [] = refl
+same-word [] (w ∷ word) = rw (ne_eqb 0 (suc (length word)) (λ e. omega arith))
+same-word (b ∷ l) [] = rw (ne_eqb (suc (length l)) 0 (λ e. omega arith))
+same-word (b ∷ l) (w ∷ word) =
+    rw (same-word l word, eqb-suc-suc (length l) (length word)) (swapped (eqb b w) (eqb (length l) (length word)) (prefixed word l))

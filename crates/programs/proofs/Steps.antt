@@ -3,7 +3,7 @@
 use mathlib.Core.Bool.{Bool, true, false}
 use mathlib.Core.Path.{◌≡◌, refl, ap, sym, ◌∙◌}
 use mathlib.Core.List.{List}
-use Prim.Native.Nat.{ℕ, zero, suc, ◌+◌, ◌-◌, ◌<◌, ◌≤◌}
+use Prim.Native.Nat.{ℕ, zero, suc, ◌+◌, ◌<◌, ◌≤◌}
 use native.Mathlib.Numerals.{add-one}
 use native.Mathlib.Omega.{arith}
 use lib.ListN.{length}
@@ -14,10 +14,10 @@ use Rattle.programs.specs.Buffering.{put_lines, Reached, Buffered, reached, room
 
 module _ {S : Type 0} (P : Program S) where
   -- the loop begins with one round more than there are bytes
-  pub begun : (s : S) (bytes : List ℕ) (start : ℕ) (ended : Bool) (buffer : List ℕ) (at : ℕ)
-      → buffered_from P (length bytes + 1) bytes ended buffer (record { progress = Went; state = s; next = start; at = at }) ≡ buffered_of P s bytes start ended buffer at
+  pub begun : (s : S) (bytes : List ℕ) (start : ℕ) (ended : Bool) (buffer : List ℕ) (at k : ℕ) → k ≡ length bytes + 1
+      → buffered_from P k bytes ended buffer (record { progress = Went; state = s; next = start; at = at }) ≡ buffered_of P s bytes start ended buffer at
   unfolding buffered_of
-  begun s bytes start ended buffer at = rw add-one
+  begun s bytes start ended buffer at k h = rw (h, add-one)
 
   -- what is equal has equal parts
   pub parts_are : {buffer : List ℕ} {n : Reached S} {h : Buffered S} → ◌≡◌ {A = Buffered S} (record { buffer = buffer; answer = n }) h → (buffer ≡ h.buffer) × (n ≡ h.answer)
@@ -40,13 +40,11 @@ module _ {S : Type 0} (P : Program S) where
       step_is : ◌≡◌ {A = Buffered S} (record { buffer = buffer'; answer = n' }) (buffered_step P bytes ended buffer n)
       step_is = rw (stored, answered)
 
-      pub went_on : (k : ℕ) → 0 < k → goes_on n'.progress ≡ true → buffered_from P k bytes ended buffer n ≡ buffered_from P (k - 1) bytes ended buffer' n'
+      pub went_on : (k left : ℕ) → k ≡ left + 1 → goes_on n'.progress ≡ true → buffered_from P k bytes ended buffer n ≡ buffered_from P left bytes ended buffer' n'
       unfolding buffered_from
-      went_on zero h e = absurd (omega arith)
-      went_on (suc k) h e =
-          let less : suc k - 1 ≡ k = omega arith in
+      went_on k left h e =
           let g : goes_on (buffered_step P bytes ended buffer n).answer.progress ≡ true = ap (λ (s : Buffered S). goes_on s.answer.progress) (sym step_is) ∙ e in
-          rw (room, g, less) (ap (λ (s : Buffered S). buffered_from P k bytes ended s.buffer s.answer) (sym step_is))
+          rw (h, add-one, room, g) (ap (λ (s : Buffered S). buffered_from P left bytes ended s.buffer s.answer) (sym step_is))
 
       pub stopped : (k : ℕ) → 0 < k → goes_on n'.progress ≡ false → buffered_from P k bytes ended buffer n ≡ record { buffer = buffer'; answer = n' }
       unfolding buffered_from

@@ -2,6 +2,7 @@
 -- or writes. Assumes nothing.
 use Rattle.std.specs.Prelude.{Bool, cond, List, [], ◌∷◌, ℕ, zero, suc, ◌+◌, leb, length}
 use Rattle.decimals.specs.Putting.{put_at, place_after}
+use Rattle.programs.specs.declared.Next.{Next}
 use Rattle.programs.specs.declared.Progress.{Progress}
 use Rattle.programs.specs.declared.Progress.TheVariants.{Went}
 use Rattle.programs.specs.Program.{Program}
@@ -23,6 +24,10 @@ pub record Reached (S : Type 0) : Type 0 where
   pub state : S
   pub next : ℕ
   pub at : ℕ
+
+-- what was reached, as an answer tells it
+abbrev pub reached_by : {S : Type 0} → Next S → Reached S
+reached_by n = record { progress = n.progress; state = n.state; next = n.next; at = n.at }
 
 -- the buffer with the lines in it, and what was reached
 pub record Buffered (S : Type 0) : Type 0 where

@@ -22,14 +22,12 @@ fn queue_single(success: bool, p: Places, count: u8) -> Places
         }
         return Places {
             urgent: p.urgent + 1,
-            long: p.long,
-            resolution: p.resolution,
+            ..p
         };
     }
     Places {
-        urgent: p.urgent,
-        long: p.long + (count as u32),
-        resolution: p.resolution,
+        long: p.long + u32::from(count),
+        ..p
     }
 }
 
@@ -43,9 +41,8 @@ pub fn queue(success: bool, p: Places, f: Feedback) -> Places
         Feedback::Empty => p,
         Feedback::Single(_, count) => queue_single(success, p, count),
         Feedback::Collide => Places {
-            urgent: p.urgent,
-            long: p.long,
             resolution: p.resolution + 1,
+            ..p
         },
     }
 }
@@ -54,7 +51,7 @@ pub fn queue(success: bool, p: Places, f: Feedback) -> Places
 pub fn held(m: u8) -> usize
     ensures { result ≡ min m 8 }
 {
-    if m < 8 { m as usize } else { 8 }
+    usize::from(m).min(8)
 }
 
 // The first m minislots of a row, in order.
@@ -62,14 +59,9 @@ pub fn queue_row(success: bool, before: Places, row: [MinislotFeedback; 8], m: u
     requires { Within 65535 before }
     ensures { result ≡ queued_row success before (take m (feedback_in row)) }
 {
-    let n = held(m);
     let mut p = before;
-    let mut j: usize = 0;
-    while j < n {
-        let slot = row[j];
-        let f = slot.feedback;
-        p = queue(success, p, f);
-        j += 1;
+    for minislot in &row[..held(m)] {
+        p = queue(success, p, minislot.feedback);
     }
     p
 }

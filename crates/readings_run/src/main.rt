@@ -7,88 +7,79 @@
 
 #![tactic(auto)]
 
-ghost use Rattle.std.specs.Prelude.{◌≡◌, ◌≤◌, ◌<◌, length};
+ghost use Rattle.std.specs.Prelude.{◌≤◌};
 
 use minislot::{Feedback, Reading, RowReading};
-use runs_cases::{
-    Group, count, counts, group_at, line_end, number, number8, number16, which, words,
-};
+use runs_cases::{Group, split_group, word};
 use runs_files::read_full;
-use runs_text::{form, text, worded};
+use runs_text::text;
 use std::io;
 
-// ---- readings as numbers: 1 Empty; 2 Single, its index and count; 3 Collide; 4 refused and the refusal's number
+// What a line asks for.
+#[derive(Clone, Copy)]
+enum Call {
+    Minislot,
+    Digest,
+    Row,
+    RowAt,
+}
 
-fn feedback_numbers(feedback: Feedback) -> [u64; 3] {
+fn call_of(word: &[u8]) -> Option<Call> {
+    match word {
+        b"minislot" => Some(Call::Minislot),
+        b"digest" => Some(Call::Digest),
+        b"row" => Some(Call::Row),
+        b"row_at" => Some(Call::RowAt),
+        _ => None,
+    }
+}
+
+// ---- readings as text
+
+fn feedback_text(rt: &impl Print, feedback: Feedback) -> io::Result<()> {
     match feedback {
-        Feedback::Empty => [1, 0, 0],
-        Feedback::Single(index, count) => [2, index as u64, count as u64],
-        Feedback::Collide => [3, 0, 0],
+        Feedback::Empty => text(rt, b" empty"),
+        Feedback::Single(index, count) => print!(rt; " single,{index},{count}"),
+        Feedback::Collide => text(rt, b" collide"),
     }
 }
 
-fn reading_numbers(reading: Reading) -> [u64; 3] {
+fn reading_text(rt: &impl Print, reading: Reading) -> io::Result<()> {
     match reading {
-        Reading::Heard(feedback) => feedback_numbers(feedback),
-        Reading::Refused(number) => [4, number as u64, 0],
+        Reading::Heard(feedback) => feedback_text(rt, feedback),
+        Reading::Refused(number) => print!(rt; " refused,{number}"),
     }
-}
-
-// How many of the three numbers are written.
-fn written(kind: u64) -> usize
-    ensures { result ≤ 3 }
-{
-    match kind {
-        2 => 3,
-        4 => 2,
-        _ => 1,
-    }
-}
-
-fn reading_text(rt: &impl Print, numbers: [u64; 3]) -> io::Result<()> {
-    let end = written(numbers[0]);
-    worded(
-        rt,
-        b" @",
-        b"empty single collide refused ",
-        &numbers[0..end],
-    )
 }
 
 // ---- a digest
-//
-// Its tally: Empty, Single, Collide, refusals 1 to 4 (of 2, which is retired, none), and the sums of the indexes and of the counts of
-// Singles.
 
-// Where a reading is counted.
-fn place_of(kind: u64, number: u64) -> usize
-    ensures { result < 9 }
-{
-    if kind < 4 {
-        return (kind % 4 + 8) as usize % 9;
-    }
-    (number % 5 + 2) as usize
-}
-
-fn single(kind: u64, number: u64) -> u64 {
-    if kind == 2 { number } else { 0 }
-}
-
-// A sum that can't pass the type's limit; none here comes near 10^12.
-fn plus(a: u64, b: u64) -> u64 {
-    a % 1000000000000 + b % 1000000000000
+// How many of each answer there were (refusal 1 stands at 1; of 2, which is retired, there are none), and the sums of the indexes and of
+// the counts of Singles. None here comes near the limit of its type.
+#[derive(Clone, Copy, Default)]
+struct Tally {
+    empty: u64,
+    single: u64,
+    collide: u64,
+    refused: [u64; 5],
+    indexes: u64,
+    counts: u64,
 }
 
 // The tally with one more reading.
-fn tallied(before: [u64; 9], reading: [u64; 3]) -> [u64; 9]
-    ensures { length result ≡ 9 }
-{
-    let mut tally = before;
-    let kind = reading[0];
-    let place = place_of(kind, reading[1]);
-    tally[place] = plus(tally[place], 1);
-    tally[7] = plus(tally[7], single(kind, reading[1]));
-    tally[8] = plus(tally[8], single(kind, reading[2]));
+fn tallied(mut tally: Tally, reading: Reading) -> Tally {
+    match reading {
+        Reading::Heard(Feedback::Empty) => tally.empty = tally.empty.saturating_add(1),
+        Reading::Heard(Feedback::Single(index, count)) => {
+            tally.single = tally.single.saturating_add(1);
+            tally.indexes = tally.indexes.saturating_add(u64::from(index));
+            tally.counts = tally.counts.saturating_add(u64::from(count));
+        }
+        Reading::Heard(Feedback::Collide) => tally.collide = tally.collide.saturating_add(1),
+        Reading::Refused(number) => {
+            let place = usize::from(number % 5);
+            tally.refused[place] = tally.refused[place].saturating_add(1);
+        }
+    }
     tally
 }
 
@@ -96,97 +87,76 @@ fn tallied(before: [u64; 9], reading: [u64; 3]) -> [u64; 9]
 fn digest_text(rt: &impl Print, first: u32, end: u32, count: u8) -> io::Result<()>
     requires { end ≤ 65536 }
 {
-    let mut tally = [0u64; 9];
-    let mut word = first;
-    while word < end {
-        let reading = minislot::read(word as u16, count);
-        tally = tallied(tally, reading_numbers(reading));
-        word += 1;
+    let mut tally = Tally::default();
+    for word in first..end {
+        tally = tallied(tally, minislot::read(word as u16, count));
     }
-    form(
-        rt,
-        b" empty,# single,# collide,# refused,1,# refused,2,# refused,3,# refused,4,# indexes,# counts,#",
-        &tally,
-    )
+    print!(rt;
+        " empty,{} single,{} collide,{}",
+        tally.empty, tally.single, tally.collide
+    )?;
+    for (number, times) in tally.refused.iter().enumerate().skip(1) {
+        print!(rt; " refused,{number},{times}")?;
+    }
+    print!(rt; " indexes,{} counts,{}", tally.indexes, tally.counts)
 }
 
 // ---- the calls
 
-fn minislot_case(rt: &impl Print, head: Group) -> io::Result<()> {
-    let reading = minislot::read(number16(head, 1), number8(head, 2));
-    reading_text(rt, reading_numbers(reading))
-}
-
 // Both ends are 65536 at most.
-fn digest_case(rt: &impl Print, head: Group) -> io::Result<()> {
-    let first = (number(head, 1) % 65537) as u32;
-    let end = (number(head, 2) % 65537) as u32;
-    digest_text(rt, first, end, number8(head, 3))
+fn digest_case(rt: &impl Print, head: &Group) -> io::Result<()> {
+    let first = (head.number(1) % 65537) as u32;
+    let end = (head.number(2) % 65537) as u32;
+    digest_text(rt, first, end, head.number8(3))
 }
 
 // A row's whole answer: its number, its weight and its eight places.
-fn row_text(rt: &impl Print, row: RowReading) -> io::Result<()> {
-    let numbers = [row.number as u64, row.weight as u64];
-    form(rt, b" number,# weight,#", &numbers)?;
-    let minislots = row.minislots;
-    let mut j: usize = 0;
-    while j < 8 {
-        let place = minislots[j];
-        let feedback = place.feedback;
-        reading_text(rt, feedback_numbers(feedback))?;
-        j += 1;
+fn row_text(rt: &impl Print, row: &RowReading) -> io::Result<()> {
+    print!(rt; " number,{} weight,{}", row.number, row.weight)?;
+    for place in &row.minislots {
+        feedback_text(rt, place.feedback)?;
     }
     Ok(())
 }
 
-// A row, or the row of a recording from a start.
-fn row_read(kind: u64, head: Group, words: &[u16], counts: &[u8]) -> RowReading {
-    if kind == 3 {
-        return row_reading::read_row(words, counts, number8(head, 1));
-    }
-    row_at::read_row_at(words, counts, number(head, 1) as usize, number8(head, 2))
-}
-
-fn row_case(rt: &impl Print, kind: u64, line: &[u8], head: Group) -> io::Result<()> {
-    let w = group_at(line, head.next);
-    let c = group_at(line, w.next);
-    let words = words(w, 1, 1);
-    let counts = counts(c, 1, 1);
-    let n = count(w);
-    let k = count(c);
-    row_text(rt, row_read(kind, head, &words[0..n], &counts[0..k]))
+// A row of m minislots, or the row of a recording from a start, if there is one.
+fn row_case(rt: &impl Print, start: Option<usize>, m: u8, rest: &[u8]) -> io::Result<()> {
+    let (w, rest) = split_group(rest);
+    let (c, _) = split_group(rest);
+    let words = w.words(1, 1);
+    let counts = c.counts(1, 1);
+    let words = &words[..w.count()];
+    let counts = &counts[..c.count()];
+    let row = match start {
+        None => row_reading::read_row(words, counts, m),
+        Some(start) => row_at::read_row_at(words, counts, start, m),
+    };
+    row_text(rt, &row)
 }
 
 // ---- the cases
 
 // One line: it is written, and then its answer.
 fn case(rt: &impl Print, line: &[u8]) -> io::Result<()> {
-    let head = group_at(line, 0);
-    let kind = which(line, 0, b"minislot digest row row_at ");
-    if kind == 0 {
+    let Some(call) = call_of(word(line)) else {
         return Ok(());
-    }
+    };
+    let (head, rest) = split_group(line);
     text(rt, line)?;
-    match kind {
-        1 => minislot_case(rt, head)?,
-        2 => digest_case(rt, head)?,
-        _ => row_case(rt, kind, line, head)?,
+    match call {
+        Call::Minislot => reading_text(rt, minislot::read(head.number16(1), head.number8(2)))?,
+        Call::Digest => digest_case(rt, &head)?,
+        Call::Row => row_case(rt, None, head.number8(1), rest)?,
+        Call::RowAt => row_case(rt, Some(head.number(1) as usize), head.number8(2), rest)?,
     }
     text(rt, b"\n")
-}
-
-fn cases(rt: &impl Print, bytes: &[u8]) -> io::Result<()> {
-    let mut at: usize = 0;
-    while at < bytes.len() {
-        let end = line_end(bytes, at);
-        case(rt, &bytes[at..end])?;
-        at = end + 1;
-    }
-    Ok(())
 }
 
 fn main(rt: HostRuntime) -> io::Result<()> {
     let mut space = [0u8; 65536];
     let n = read_full(&mut rt.reader(), &mut space)?;
-    cases(&rt, &space[..n])
+    for line in space[..n].split(|byte| *byte == b'\n') {
+        case(&rt, line)?;
+    }
+    Ok(())
 }

@@ -13,13 +13,11 @@ use rules::{Condition, Station, Which, Writing};
 const SHORT_LIMIT: usize = 48;
 
 // Whether a message of this many bytes is one for the short record.
+#[tactic(auto, unfolding(message::specs::Message::fits_short))]
 fn fits_short(bytes: usize) -> bool
     ensures { result ≡ fits_short bytes }
 {
-    if bytes < 1 {
-        return false;
-    }
-    bytes <= SHORT_LIMIT
+    (1..=SHORT_LIMIT).contains(&bytes)
 }
 
 // The record that a message's length picks.
@@ -38,10 +36,8 @@ pub fn record_of(w: Writing) -> Which
     ensures { result ≡ writes w }
 {
     match w {
-        Writing::Offer { bytes } => record_for(bytes),
-        Writing::Hold { bytes } => record_for(bytes),
-        Writing::Commit { which } => which,
-        Writing::Withdraw { which } => which,
+        Writing::Offer { bytes } | Writing::Hold { bytes } => record_for(bytes),
+        Writing::Commit { which } | Writing::Withdraw { which } => which,
     }
 }
 
@@ -49,12 +45,8 @@ pub fn record_of(w: Writing) -> Which
 pub fn record_in(o: Which, s: Station) -> Condition
     ensures { result ≡ record_in o s }
 {
-    let a = s.short;
-    let b = s.long;
-    let short = a.condition;
-    let long = b.condition;
     match o {
-        Which::ShortOne => short,
-        Which::LongOne => long,
+        Which::ShortOne => s.short.condition,
+        Which::LongOne => s.long.condition,
     }
 }

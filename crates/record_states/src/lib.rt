@@ -11,28 +11,12 @@ use rules::Condition;
 pub fn is_free(k: Condition) -> bool
     ensures { result ≡ is_free k }
 {
-    match k {
-        Condition::Free => true,
-        Condition::Fresh { .. } => false,
-        Condition::Asked { .. } => false,
-        Condition::Resolving { .. } => false,
-        Condition::Urgent { .. } => false,
-        Condition::Long { .. } => false,
-        Condition::Held { .. } => false,
-    }
+    matches!(k, Condition::Free)
 }
 
 // Whether its message is held.
 pub fn is_held(k: Condition) -> bool
     ensures { result ≡ is_held k }
 {
-    match k {
-        Condition::Free => false,
-        Condition::Fresh { .. } => false,
-        Condition::Asked { .. } => false,
-        Condition::Resolving { .. } => false,
-        Condition::Urgent { .. } => false,
-        Condition::Long { .. } => false,
-        Condition::Held { .. } => true,
-    }
+    matches!(k, Condition::Held { .. })
 }

@@ -1,6 +1,7 @@
 -- What a row's reading leads to, by the tests that the code makes of it in turn: the number, the field count, m above 8, and then listening.
 -- Assumes nothing.
-use mathlib.Core.Bool.{Bool, true, false, cond}
+use Rattle.std.specs.Prelude.{Some, None}
+use mathlib.Core.Bool.{Bool, true, false}
 use mathlib.Core.Path.{◌≡◌, refl, ap, sym, ◌∙◌}
 use mathlib.Core.List.{List}
 use Prim.Native.Nat.{ℕ, ◌*◌, ◌<◌, ◌≤◌}
@@ -8,7 +9,7 @@ use native.Mathlib.Omega.{arith}
 use borrow.Author.Tests.{eq-eqb, ne_eqb}
 use lib.ListN.{length, take, length-take}
 use Rattle.fields.specs.Fields.{fields_of}
-use Rattle.row_fields.specs.Row.{broken_row, row_from, row_of}
+use Rattle.row_fields.specs.Row.{row_from, row_of}
 use Rattle.row_fields.specs.declared.RowFields.{RowFields}
 use Rattle.row_fields.proofs.RowLaws.{row-good, row-halves, Halves}
 use Rattle.rules.specs.declared.Counters.{Counters}
@@ -35,61 +36,65 @@ many-minislots c h = go (within_limits c) refl
     go true e = absurd (omega (arith, within-limits c e))
     go false e = refl
 
-module _ (f : Follower) (bytes : List ℕ) (row : RowFields) (read : row ≡ row_of bytes) where
-  pub row-refused : (row.number ≡ 0 → ⊥) → refused_step f 19 ≡ row_step f bytes
-  unfolding row_of row_from row_step row_number_of
-  row-refused h = go (is_row bytes) refl
+-- a record is a row or none
+row-is : (bytes : List ℕ) → is_row bytes ≡ true → row_of bytes ≡ Some (row_from (fields_of bytes))
+unfolding row_of
+row-is bytes e = rw e
+
+row-none : (bytes : List ℕ) → is_row bytes ≡ false → row_of bytes ≡ None
+unfolding row_of
+row-none bytes e = rw e
+
+pub row-refused : (f : Follower) (bytes : List ℕ) → row_of bytes ≡ None → refused_step f 19 ≡ row_step f bytes
+unfolding row_step row_number_of
+row-refused f bytes h = go (is_row bytes) refl
+  where
+    go : (t : Bool) → is_row bytes ≡ t → refused_step f 19 ≡ row_step f bytes
+    go true e = let s = row-is bytes e in cc
+    go false e = rw e
+
+module _ (f : Follower) (bytes : List ℕ) (r : RowFields) (whole : row_of bytes ≡ Some r) where
+  field_count : r.fields ≡ length (fields_of bytes)
+  unfolding row_from
+  field_count = ap (λ (x : RowFields). x.fields) (row-good bytes r whole)
+
+  is-row : is_row bytes ≡ true
+  is-row = go (is_row bytes) refl
     where
-      go : (t : Bool) → is_row bytes ≡ t → refused_step f 19 ≡ row_step f bytes
-      go true e = absurd (h (ap (λ (r : RowFields). r.number) read ∙ rw e))
-      go false e = rw e
+      go : (t : Bool) → is_row bytes ≡ t → is_row bytes ≡ true
+      go true e = e
+      go false e = let n = row-none bytes e in cc
 
-  module _ (whole : row.number ≡ 0) where
-    zero_number : (row_of bytes).number ≡ 0
-    zero_number = ap (λ (r : RowFields). r.number) (sym read) ∙ whole
+  pub other-count : (r.fields ≡ f.counters.minislots * 2 → ⊥) → refused_step f 6 ≡ row_step f bytes
+  unfolding row_step row_number_of
+  other-count h =
+      let n : length (fields_of bytes) ≡ f.counters.minislots * 2 → ⊥ = λ e. h (field_count ∙ e) in
+      rw (is-row, ne_eqb _ _ n)
 
-    field_count : row.fields ≡ length (fields_of bytes)
-    unfolding row_from
-    field_count = ap (λ (r : RowFields). r.fields) (read ∙ row-good bytes zero_number)
+  module _ (count : r.fields ≡ f.counters.minislots * 2) where
+    by-listening : listened_step f (listening_of f.counters (row_words bytes) (row_counts bytes)) ≡ row_step f bytes
+    unfolding listening_of listened row_places row_step row_number_of
+    by-listening =
+        let n : length (fields_of bytes) ≡ f.counters.minislots * 2 = sym field_count ∙ count in
+        rw (is-row, eq-eqb _ _ n)
+        (by-ap (listened_step f) (listen_number_of f.counters (row_words bytes) (row_counts bytes)) (refused_listening f.counters) _)
 
-    is-row : is_row bytes ≡ true
-    unfolding row_of broken_row
-    is-row = go (is_row bytes) zero_number
-      where
-        go : (t : Bool) → (cond t (row_from (fields_of bytes)) broken_row).number ≡ 0 → t ≡ true
-        go true e = refl
-        go false e = absurd (omega arith)
+    pub outside : 8 < f.counters.minislots → refused_step f 18 ≡ row_step f bytes
+    outside h =
+        ap (listened_step f) (listening_18 f.counters (row_words bytes) (row_counts bytes) (many-minislots f.counters h))
+        ∙ by-listening
 
-    pub other-count : (row.fields ≡ f.counters.minislots * 2 → ⊥) → refused_step f 6 ≡ row_step f bytes
-    unfolding row_step row_number_of
-    other-count h =
-        let n : length (fields_of bytes) ≡ f.counters.minislots * 2 → ⊥ = λ e. h (field_count ∙ e) in
-        rw (is-row, ne_eqb _ _ n)
+    module _ (few : f.counters.minislots ≤ 8) where
+      halves : Halves bytes f.counters.minislots r
+      halves = row-halves bytes f.counters.minislots r whole count few
 
-    module _ (count : row.fields ≡ f.counters.minislots * 2) where
-      by-listening : listened_step f (listening_of f.counters (row_words bytes) (row_counts bytes)) ≡ row_step f bytes
-      unfolding listening_of listened row_places row_step row_number_of
-      by-listening =
-          let n : length (fields_of bytes) ≡ f.counters.minislots * 2 = sym field_count ∙ count in
-          rw (is-row, eq-eqb _ _ n)
-          (by-ap (listened_step f) (listen_number_of f.counters (row_words bytes) (row_counts bytes)) (refused_listening f.counters) _)
+      pub word_count : length (take f.counters.minislots r.words) ≡ f.counters.minislots
+      word_count = rw halves.words halves.all_words
 
-      pub outside : 8 < f.counters.minislots → refused_step f 18 ≡ row_step f bytes
-      outside h =
-          ap (listened_step f) (listening_18 f.counters (row_words bytes) (row_counts bytes) (many-minislots f.counters h))
-          ∙ by-listening
+      pub count-count : length (take f.counters.minislots r.counts) ≡ f.counters.minislots
+      count-count = rw halves.counts halves.all-counts
 
-      module _ (few : f.counters.minislots ≤ 8) where
-        halves : Halves bytes f.counters.minislots
-        halves = row-halves bytes f.counters.minislots zero_number (ap (λ (r : RowFields). r.fields) (sym read) ∙ count) few
-
-        pub word_count : length (take f.counters.minislots row.words) ≡ f.counters.minislots
-        word_count = rw (read, halves.words) halves.all_words
-
-        pub count-count : length (take f.counters.minislots row.counts) ≡ f.counters.minislots
-        count-count = rw (read, halves.counts) halves.all-counts
-
-        pub heard-row : (heard : Listened)
-            → heard ≡ listening_of f.counters (take f.counters.minislots row.words) (take f.counters.minislots row.counts)
-            → listened_step f heard ≡ row_step f bytes
-        heard-row heard e = rw (e, read, halves.words, halves.counts) by-listening
+      pub heard-row : (heard : Listened)
+          → heard ≡ listening_of f.counters (take f.counters.minislots r.words) (take f.counters.minislots r.counts)
+          → listened_step f heard ≡ row_step f bytes
+      heard-row heard e = rw (e, halves.words, halves.counts) by-listening

@@ -6,7 +6,7 @@ ghost use Rattle.std.specs.Prelude.{◌≡◌};
 ghost use Rattle.following.specs.Following.{follow_record};
 ghost use Rattle.following.specs.Steps.{row_step};
 
-use fields::{First, first_fields};
+use fields::first_fields;
 use follow_starts::start_with;
 use following::{Follower, Step, listened, refused};
 use listening::listen;
@@ -16,21 +16,17 @@ use row_fields::row_fields;
 fn row(f: Follower, bytes: &[u8]) -> Step
     ensures { result ≡ row_step f bytes.now }
 {
-    let fields = row_fields(bytes);
-    if fields.number != 0 {
+    let Some(row) = row_fields(bytes) else {
         return refused(f, 19);
-    }
-    let c = f.counters;
-    let m = c.minislots as usize;
-    if fields.fields != m * 2 {
+    };
+    let m = f.counters.minislots as usize;
+    if row.fields != m * 2 {
         return refused(f, 6);
     }
     if 8 < m {
         return refused(f, 18);
     }
-    let words = fields.words;
-    let counts = fields.counts;
-    let heard = listen(c, &words[..m], &counts[..m]);
+    let heard = listen(f.counters, &row.words[..m], &row.counts[..m]);
     listened(f, heard)
 }
 
@@ -41,9 +37,8 @@ pub fn read_record(f: Follower, bytes: &[u8]) -> Step
     if 1 < f.place {
         return row(f, bytes);
     }
-    let first = first_fields(bytes);
-    match first {
-        First::Broken => refused(f, 19),
-        First::Numbers(m, n) => start_with(f, m, n),
+    match first_fields(bytes) {
+        None => refused(f, 19),
+        Some(first) => start_with(f, first.m, first.n),
     }
 }

@@ -33,9 +33,9 @@ module _ (ended : Bool) (at : ℕ) (bytes : List ℕ) where
   unfolding cut_of begins
   begins-some longest h = rw (rest bytes at 0 h)
 
-  pub goes_last : (room : ℕ) → length bytes ≤ at → ended ≡ true → goes_on ended at room (drop at bytes) ≡ Record at at
+  pub goes_last : (room : ℕ) → at ≡ length bytes → ended ≡ true → goes_on ended at room (drop at bytes) ≡ Record (length bytes) (length bytes)
   unfolding goes_on
-  goes_last room h e = rw (drop_of_length-le bytes h, e)
+  goes_last room h e = let over : length bytes ≤ at = omega arith in rw (drop_of_length-le bytes over, e, h)
 
   pub goes_open : (room : ℕ) → length bytes ≤ at → ended ≡ false → goes_on ended at room (drop at bytes) ≡ More
   unfolding goes_on

@@ -56,9 +56,8 @@ pub fn cut_record(bytes: &[u8], start: usize, longest: usize, ended: bool) -> Cu
         }
         return Cut::More;
     }
-    let mut at = start;
     let mut room = longest;
-    while at < bytes.len() {
+    for at in start..bytes.len() {
         let b = bytes[at];
         if b == CR {
             return after_return(bytes, at, ended);
@@ -70,10 +69,10 @@ pub fn cut_record(bytes: &[u8], start: usize, longest: usize, ended: bool) -> Cu
             return Cut::Broken;
         }
         room -= 1;
-        at += 1;
     }
     if ended {
-        return Cut::Record { end: at, next: at };
+        let end = bytes.len();
+        return Cut::Record { end, next: end };
     }
     Cut::More
 }

@@ -13,13 +13,8 @@ fn not_asked(g: u8, k: Condition) -> bool
     ensures { result ≡ not_asked g k }
 {
     match k {
-        Condition::Free => true,
-        Condition::Fresh { .. } => true,
         Condition::Asked { group, .. } => group != g,
-        Condition::Resolving { .. } => true,
-        Condition::Urgent { .. } => true,
-        Condition::Long { .. } => true,
-        Condition::Held { .. } => true,
+        _ => true,
     }
 }
 
@@ -28,27 +23,19 @@ fn not_at(g: u8, i: u16, k: Condition) -> bool
     ensures { result ≡ not_at g i k }
 {
     match k {
-        Condition::Free => true,
-        Condition::Fresh { .. } => true,
-        Condition::Asked { .. } => true,
-        Condition::Resolving { group, place, .. } => if group == g { place != i } else { true },
-        Condition::Urgent { .. } => true,
-        Condition::Long { .. } => true,
-        Condition::Held { .. } => true,
+        Condition::Resolving { group, place, .. } => !(group == g && place == i),
+        _ => true,
     }
 }
 
 // Whether two messages of one station share neither an asked group nor a place of a resolution queue.
+#[tactic(auto, unfolding(rules::specs::StationLimits::records_apart))]
 pub fn records_apart(short: Condition, long: Condition) -> bool
     ensures { result ≡ records_apart short long }
 {
     match short {
-        Condition::Free => true,
-        Condition::Fresh { .. } => true,
         Condition::Asked { group, .. } => not_asked(group, long),
         Condition::Resolving { group, place, .. } => not_at(group, place, long),
-        Condition::Urgent { .. } => true,
-        Condition::Long { .. } => true,
-        Condition::Held { .. } => true,
+        _ => true,
     }
 }

@@ -1,23 +1,21 @@
--- The line of a refusal as the pieces that are written one after another, and how long it is.
+-- The line of a refusal's form is the line of the refusal, by computation; and how long it is.
 -- Assumes nothing.
-use mathlib.Core.Path.{◌≡◌}
-use mathlib.Core.List.{List, [], ◌∷◌, ◌++◌, append_assoc}
+use mathlib.Core.Path.{◌≡◌, refl}
+use mathlib.Core.List.{[], ◌∷◌}
 use Prim.Native.Nat.{ℕ, ◌+◌, ◌<◌, ◌≤◌}
 use native.Mathlib.Omega.{arith}
 use lib.ListN.{length, length-append}
 use Rattle.decimals.specs.Decimal.{digits_of}
-use Rattle.decimals.specs.Printing.{record_of, field_bytes}
+use Rattle.decimals.specs.Printing.{record_of}
 use Rattle.decimals.proofs.Decimals.{digits-few}
+use Rattle.forms.specs.Form.{form_of, left_of}
 use Rattle.refusals.specs.Refusal.{refusal_of}
 
--- `refused,`
-abbrev pub refused_bytes : List ℕ
-refused_bytes = 114 ∷ 101 ∷ 102 ∷ 117 ∷ 115 ∷ 101 ∷ 100 ∷ 44 ∷ []
-
 module _ (number place : ℕ) where
-  pub refusal_pieces : refused_bytes ++ field_bytes number 44 ++ field_bytes place 13 ++ (10 ∷ []) ≡ refusal_of number place
-  unfolding refusal_of record_of
-  refusal_pieces = simp append_assoc
+  -- the form is `refused,#,#`
+  pub refusal-form : form_of (114 ∷ 101 ∷ 102 ∷ 117 ∷ 115 ∷ 101 ∷ 100 ∷ 44 ∷ 35 ∷ 44 ∷ 35 ∷ []) (number ∷ place ∷ []) ≡ refusal_of number place
+  unfolding form_of left_of refusal_of record_of
+  refusal-form = refl
 
   pub refusal-length : length (refusal_of number place) ≡ length (digits_of number) + length (digits_of place) + 11
   unfolding refusal_of record_of

@@ -5,14 +5,15 @@
 
 use header_line::put_header;
 use pipes::{Failure, flush, open_named, serve, status, too_long};
-use rehearse_rounds::rehearse_round;
-use rehearse_stream::rehearse_buffered;
+use rehearser::Rehearse;
 use rehearsing::begin;
+use rounds::round;
 use standing::begin_run;
 use std::env::{Env, FillError};
 use std::io::{self, Read, Write};
 use std::process::ExitCode;
 use std::rt::Files;
+use stream::buffered;
 
 // Rehearses all that the reader gives. A proved loop has to end, and nothing says that the input does: so the loop counts its rounds, up
 // to a number that no run comes to.
@@ -24,8 +25,8 @@ fn rehearse_input(reader: &mut impl Read, writer: &mut impl Write) -> Result<(),
     let mut r = begin();
     let mut s = begin_run(put_header(out, 0));
     for _ in 0..u64::MAX {
-        let rehearsed = rehearse_round(r, s, input, out);
-        r = rehearsed.rehearsal;
+        let rehearsed = round::<Rehearse>(r, s, input, out);
+        r = rehearsed.state;
         let served = serve(reader, writer, rehearsed.run, input, out)?;
         s = served.run;
         if !served.live {
@@ -43,7 +44,7 @@ fn rehearse_example(writer: &mut impl Write) -> Result<(), Failure> {
     let list =
         b"2,1,7,8,9\r\noffer,7,48\r\nslot,1,1,1\r\noffer,8,20\r\noffer,9,97\r\noffer,7,1\r\nslot,1,2,2\r\n\
           slot,1,1,2\r\nshow\r\nslot,1,1,1\r\nslot,1,1,1\r\nslot,1,1,1\r\nslot,1,1,1\r\n";
-    let n = rehearse_buffered(begin(), list, 0, true, out, at);
+    let n = buffered::<Rehearse>(begin(), list, 0, true, out, at);
     flush(writer, out, n.at)
 }
 

@@ -17,7 +17,7 @@ use write_fields::WriteFields;
 // An offer, a hold, a commit or a withdrawal, by what was read of it. 19: it breaks the form. Every other answer is a line.
 pub fn write_record(
     r: Rehearsal,
-    fields: WriteFields,
+    fields: Option<WriteFields>,
     next: usize,
     out: &mut [u8],
     at: usize,
@@ -26,10 +26,9 @@ pub fn write_record(
     ensures answer { reached_by result ≡ (result_by r (write_result r fields) next out.old at).answer }
 {
     match fields {
-        WriteFields::Broken => end_with(r, 19, next, out, at),
-        WriteFields::At(index, w) => {
-            let channel = r.channel;
-            let called = local_write::write(channel, index, w);
+        None => end_with(r, 19, next, out, at),
+        Some(write) => {
+            let called = local_write::write(r.channel, write.index, write.writing);
             answer_with(r, called, next, out, at)
         }
     }
@@ -42,15 +41,11 @@ pub fn slot_record(r: Rehearsal, bytes: &[u8], next: usize, out: &mut [u8], at: 
     ensures answer { reached_by result
         ≡ (result_by r (slot_result r (list_of 255 (parts (drop 5 bytes.now)))) next out.old at).answer }
 {
-    let list = numbers_from(bytes, 5, 255);
-    if list.number != 0 {
-        return end_with(r, list.number, next, out, at);
-    }
-    let values = list.values;
-    let picks = low_bytes(values);
-    let count = list.count;
-    let channel = r.channel;
-    let called = local_slot::slot(channel, &picks[..count]);
+    let Some(list) = numbers_from(bytes, 5, 255) else {
+        return end_with(r, 19, next, out, at);
+    };
+    let picks = low_bytes(list.values);
+    let called = local_slot::slot(r.channel, &picks[..list.count]);
     answer_with(r, called, next, out, at)
 }
 
@@ -59,8 +54,7 @@ pub fn bare_slot(r: Rehearsal, next: usize, out: &mut [u8], at: usize) -> Next
     ensures buffer { out.new ≡ (result_by r (bare_result r) next out.old at).buffer }
     ensures answer { reached_by result ≡ (result_by r (bare_result r) next out.old at).answer }
 {
-    let channel = r.channel;
-    let called = local_slot::slot(channel, &[]);
+    let called = local_slot::slot(r.channel, &[]);
     answer_with(r, called, next, out, at)
 }
 
@@ -71,12 +65,9 @@ pub fn calendar_record(r: Rehearsal, bytes: &[u8], next: usize, out: &mut [u8], 
     ensures answer { reached_by result
         ≡ (result_by r (calendar_result r (calendar_in (parts (drop 9 bytes.now)))) next out.old at).answer }
 {
-    let fields = calendar_fields(bytes, 9);
-    if fields.number != 0 {
-        return end_with(r, fields.number, next, out, at);
-    }
-    let entries = fields.entries;
-    let channel = r.channel;
-    let called = local_calendar::calendar(channel, entries);
+    let Some(entries) = calendar_fields(bytes, 9) else {
+        return end_with(r, 19, next, out, at);
+    };
+    let called = local_calendar::calendar(r.channel, entries);
     answer_with(r, called, next, out, at)
 }

@@ -1,13 +1,12 @@
 -- What each way of the record comes to, as the definition has it: by what was read of it; and the line of a list that was lent, the first entries
 -- of a room, of which none is used before the call. Assumes nothing.
+use Rattle.std.specs.Prelude.{Option, Some, None}
 use mathlib.Core.Path.{◌≡◌, refl, ap, ◌∙◌}
 use mathlib.Core.List.{List, ◌∷◌, ◌++◌}
 use Prim.Native.Nat.{ℕ, zero, suc, ◌≤◌, min}
 use native.Mathlib.Omega.{arith}
-use borrow.Author.Tests.{eq-eqb, ne_eqb}
 use lib.ListN.{length, take, drop, replicate, length-replicate}
 use lib.Seq.{take_at}
-use Rattle.coming_fields.specs.declared.ComingFields.{ComingFields}
 use Rattle.coming_lines.specs.ComingLines.{coming_line}
 use Rattle.coming_rules.specs.declared.ComingAnswer.{ComingAnswer}
 use Rattle.coming_rules.specs.Coming.{ComingResult, coming_of}
@@ -17,14 +16,14 @@ use Rattle.programs.specs.Program.{Ends}
 use Rattle.rehearsing.specs.declared.Rehearsal.{Rehearsal}
 use Rattle.rehearsing.specs.Rehearsing.{coming_with, coming_result}
 
-module _ (r : Rehearsal) (fields : ComingFields) where
-  pub coming-broken : (fields.number ≡ 0 → ⊥) → Ends fields.number ≡ coming_result r fields
+module _ (r : Rehearsal) {fields : Option ℕ} where
+  pub coming-broken : fields ≡ None → Ends 19 ≡ coming_result r fields
   unfolding coming_result
-  coming-broken h = rw (ne_eqb _ _ h)
+  coming-broken e = rw e
 
-  pub coming-asked : fields.number ≡ 0 → coming_with r fields.w ≡ coming_result r fields
+  pub coming-asked : {w : ℕ} → fields ≡ Some w → coming_with r w ≡ coming_result r fields
   unfolding coming_result
-  coming-asked h = rw (eq-eqb _ _ h)
+  coming-asked e = rw e
 
 -- ---- the list that is lent
 

@@ -26,14 +26,13 @@ fn ask_coming(r: Rehearsal, w: u16, next: usize, out: &mut [u8], at: usize) -> N
     ensures answer { reached_by result ≡ (result_by r (coming_with r w) next out.old at).answer }
 {
     let count = entries_for(w as usize);
-    let channel = r.channel;
     let mut list = no_entries();
-    let answer = local_coming::coming(channel, &mut list[..count]);
+    let answer = local_coming::coming(r.channel, &mut list[..count]);
     let after = put_coming(out, at, past_first(r.place), answer, list, count);
     Next {
         progress: Progress::Went,
         rehearsal: Rehearsal {
-            channel,
+            channel: r.channel,
             place: place_following(r.place),
         },
         next,
@@ -48,9 +47,8 @@ pub fn coming_record(r: Rehearsal, bytes: &[u8], next: usize, out: &mut [u8], at
     ensures answer { reached_by result
         ≡ (result_by r (coming_result r (coming_in (parts (drop 7 bytes.now)))) next out.old at).answer }
 {
-    let fields = coming_fields(bytes, 7);
-    if fields.number != 0 {
-        return end_with(r, fields.number, next, out, at);
-    }
-    ask_coming(r, fields.w, next, out, at)
+    let Some(w) = coming_fields(bytes, 7) else {
+        return end_with(r, 19, next, out, at);
+    };
+    ask_coming(r, w, next, out, at)
 }

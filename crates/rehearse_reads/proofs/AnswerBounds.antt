@@ -10,7 +10,8 @@ use native.Mathlib.Omega.{arith}
 use lib.Dec.{eqb}
 use lib.ListN.{length, get_or, take, length-map, length-take}
 use borrow.Author.Tests.{eqb-true, ltb-true}
-use Rattle.listlaws.specs.Lists.{each, only_if}
+use Rattle.std.specs.List.{list_all}
+use Rattle.listlaws.specs.Lists.{only_if}
 use Rattle.message.specs.Message.{fits_message, slots_for}
 use Rattle.message.proofs.Totals.{slots-bounds}
 use Rattle.minislot.specs.declared.Minislot.{Minislot}
@@ -101,7 +102,7 @@ slot-low ch picks =
     unless-by Low (has_stations ch.stations) 14 _ (omega arith)
     (unless-by Low (sound_table ch.stations ch.wire) 18 _ (omega arith)
     (unless-by Low (eqb (length picks) (length ch.stations)) 17 _ (omega arith)
-    (unless-by Low (each (λ (pick : ℕ). between 1 pick (table_counters ch.stations).minislots) picks) 11 _ (omega arith)
+    (unless-by Low (list_all (λ (pick : ℕ). between 1 pick (table_counters ch.stations).minislots) picks) 11 _ (omega arith)
     (unless-by Low (step_one_of (table_counters ch.stations) (feedback_heard ch)).fits 7 0 (omega arith) (omega arith)))))
 
 calendar-low : (ch : Channel) (entries : List ℕ) → channel_calendar_number_of ch entries ≤ 22

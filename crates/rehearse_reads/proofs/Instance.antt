@@ -2,28 +2,30 @@
 -- holds of any lawful program holds of it. A refusal's number is at most 19; of a channel that began with a start that went through the line of
 -- a call has at most 233 bytes, that of who sends in the coming slots at most 6,194, and all that is shown at most 23,854.
 -- Assumes nothing.
+use Rattle.std.specs.Prelude.{Option, Some, None}
 use mathlib.Core.Bool.{Bool, true, false, cond, ◌&&◌}
 use mathlib.Core.Path.{◌≡◌, refl, sym, ap, subst}
-use mathlib.Core.List.{List, [], ◌∷◌, map, append-nil}
+use mathlib.Core.List.{List, [], append-nil}
 use Prim.Native.Nat.{ℕ, ◌-◌, ◌<◌, ◌≤◌, min}
 use native.Mathlib.Omega.{arith}
 use borrow.Author.Tests.{ltb-true}
-use lib.Dec.{ltb, leb, eqb}
+use lib.Dec.{ltb, eqb}
 use lib.ListN.{length, take, drop, replicate}
-use Rattle.listlaws.specs.Lists.{each, each_pair}
-use Rattle.fields.specs.Fields.{every, parts, numeral}
-use Rattle.number_lists.specs.NumberList.{is_number, broken_list, list_with, list_of}
+use Rattle.std.specs.List.{list_all}
+use Rattle.listlaws.specs.Lists.{each_pair}
+use Rattle.fields.specs.Fields.{parts}
+use Rattle.number_lists.specs.declared.NumberList.{NumberList}
+use Rattle.number_lists.specs.NumberList.{list_of}
 use Rattle.call_records.specs.declared.Kind.{Kind}
 use Rattle.call_records.specs.declared.Kind.TheVariants as kind
 use Rattle.call_records.specs.Words.{kind_of}
 use Rattle.call_fields.specs.declared.StartFields.{StartFields}
-use Rattle.call_fields.specs.CallFields.{offer_in, broken_start, start_in}
+use Rattle.call_fields.specs.CallFields.{offer_in, start_in}
 use Rattle.which_fields.specs.WhichFields.{which_in}
 use Rattle.write_fields.specs.declared.WriteFields.{WriteFields}
-use Rattle.write_fields.specs.declared.WriteFields.TheVariants.{At, Broken}
 use Rattle.write_fields.specs.WriteFields.{new_by, held_by}
-use Rattle.calendar_fields.specs.CalendarFields.{broken_calendar, calendar_in}
-use Rattle.coming_fields.specs.ComingFields.{broken_coming, coming_in}
+use Rattle.calendar_fields.specs.CalendarFields.{calendar_in}
+use Rattle.coming_fields.specs.ComingFields.{coming_in}
 use Rattle.answer_lines.specs.AnswerLines.{answer_line}
 use Rattle.coming_lines.specs.ComingLines.{coming_line}
 use Rattle.show_lines.specs.ShowLines.{show_lines}
@@ -66,49 +68,12 @@ Good r = In64 r.place × (1 < r.place → Begun r.channel)
 
 -- ---- numbers
 
-list-low : (most : ℕ) (ps : List (List ℕ)) → (list_of most ps).number ≤ 19
-unfolding list_of list_with broken_list
-list-low most ps = go (leb (length ps) 256 && every (is_number most) ps)
-  where
-    go : (b : Bool) → (cond b (list_with (map numeral ps)) broken_list).number ≤ 19
-    go true = omega arith
-    go false = omega arith
-
-start-low : (ps : List (List ℕ)) → (start_in ps).number ≤ 19
-unfolding start_in broken_start
-start-low [] = omega arith
-start-low (p ∷ []) = omega arith
-start-low (p ∷ q ∷ ps) = go (is_number 255 p && is_number 255 q) (eqb (list_of 65535 ps).number 0)
-  where
-    go : (a b : Bool) → (cond a (cond b (record { number = 0; m = numeral p; n = numeral q; indexes = list_of 65535 ps }) broken_start) broken_start).number ≤ 19
-    go true true = omega arith
-    go true false = omega arith
-    go false b = omega arith
-
-calendar-low : (ps : List (List ℕ)) → (calendar_in ps).number ≤ 19
-unfolding calendar_in broken_calendar
-calendar-low ps = go (eqb (length ps) 24 && every (is_number 65535) ps)
-  where
-    go : (b : Bool) → (cond b (record { number = 0; entries = map numeral ps }) broken_calendar).number ≤ 19
-    go true = omega arith
-    go false = omega arith
-
-coming-low : (ps : List (List ℕ)) → (coming_in ps).number ≤ 19
-unfolding coming_in
-coming-low [] = omega arith
-coming-low (p ∷ []) = go (is_number 65535 p)
-  where
-    go : (b : Bool) → (cond b (record { number = 0; w = numeral p }) broken_coming).number ≤ 19
-    go true = omega arith
-    go false = omega arith
-coming-low (p ∷ q ∷ ps) = omega arith
-
 channel-start-low : (count m n : ℕ) (indexes : List ℕ) → channel_start_number_of count m n indexes ≤ 19
 unfolding channel_start_number_of
 channel-start-low count m n indexes =
     unless-low (in_ranges m n) 5 _ (omega arith)
     (unless-low (between 1 count 64 && eqb (length indexes) count) 14 _ (omega arith)
-    (unless-low (each is_index indexes) 8 _ (omega arith) (unless-low (each_pair differ indexes) 15 0 (omega arith) (omega arith))))
+    (unless-low (list_all is_index indexes) 8 _ (omega arith) (unless-low (each_pair differ indexes) 15 0 (omega arith) (omega arith))))
 
 -- a start's answer: it went through, or its number is at most 19
 abbrev StartLow : StartAnswer → Type 0
@@ -137,13 +102,6 @@ module _ (r : Rehearsal) (good : Good r) where
   ends-fit : (n : ℕ) → n ≤ 19 → Fits (Ends n)
   ends-fit n h = omega (arith, refusal-within n r.place (omega arith) good.0)
 
-  by_both : (n : ℕ) (through : Result Rehearsal) → n ≤ 19 → Fits through → Fits (by_number n Ends through)
-  by_both n through h t = go (eqb n 0)
-    where
-      go : (b : Bool) → Fits (cond b through (Ends n))
-      go true = t
-      go false = ends-fit n h
-
   started-fits : (s : StartFields) → Fits (started_result r (start_of s))
   unfolding local_start_of
   started-fits s =
@@ -156,9 +114,10 @@ module _ (r : Rehearsal) (good : Good r) where
       go channel Ready low b = ((next_place r.place good.0, λ w. b refl), omega arith)
       go channel (Refused number) low b = ends-fit number low
 
-  start_fits : (ps : List (List ℕ)) → Fits (start_result r (start_in ps))
+  start_fits : (fields : Option StartFields) → Fits (start_result r fields)
   unfolding start_result
-  start_fits ps = by_both (start_in ps).number (started_result r (start_of (start_in ps))) (start-low ps) (started-fits (start_in ps))
+  start_fits None = ends-fit 19 (omega arith)
+  start_fits (Some s) = started-fits s
 
   -- a call of a channel that began
   module _ (b : Begun r.channel) where
@@ -178,22 +137,24 @@ module _ (r : Rehearsal) (good : Good r) where
           omega (arith, l, ap length (append-nil line)),
         )
 
-    write-fits : (f : WriteFields) → Fits (write_result r f)
+    write-fits : (f : Option WriteFields) → Fits (write_result r f)
     unfolding write_result local_write_of
-    write-fits (At index w) = called-fits (Write index w)
-    write-fits Broken = ends-fit 19 (omega arith)
+    write-fits (Some w) = called-fits (Write w.index w.writing)
+    write-fits None = ends-fit 19 (omega arith)
 
-    slot-fits : (ps : List (List ℕ)) → Fits (slot_result r (list_of 255 ps))
+    slot-fits : (list : Option NumberList) → Fits (slot_result r list)
     unfolding slot_result local_slot_of
-    slot-fits ps = let picks = list_of 255 ps in by_both picks.number _ (list-low 255 ps) (called-fits (Slot (take picks.count picks.values)))
+    slot-fits None = ends-fit 19 (omega arith)
+    slot-fits (Some picks) = called-fits (Slot (take picks.count picks.values))
 
     bare_fits : Fits (bare_result r)
     unfolding bare_result local_slot_of
     bare_fits = called-fits (Slot [])
 
-    calendar-fits : (ps : List (List ℕ)) → Fits (calendar_result r (calendar_in ps))
+    calendar-fits : (fields : Option (List ℕ)) → Fits (calendar_result r fields)
     unfolding calendar_result local_calendar_of
-    calendar-fits ps = let fields = calendar_in ps in by_both fields.number _ (calendar-low ps) (called-fits (Calendar fields.entries))
+    calendar-fits None = ends-fit 19 (omega arith)
+    calendar-fits (Some entries) = called-fits (Calendar entries)
 
     -- the channel stays as it was
     asked-fits : (w : ℕ) → Fits (coming_with r w)
@@ -205,9 +166,10 @@ module _ (r : Rehearsal) (good : Good r) where
           omega (arith, l, ap length (append-nil (coming_line k coming.answer coming.list))),
         )
 
-    coming-fits : (ps : List (List ℕ)) → Fits (coming_result r (coming_in ps))
+    coming-fits : (fields : Option ℕ) → Fits (coming_result r fields)
     unfolding coming_result
-    coming-fits ps = let fields = coming_in ps in by_both fields.number _ (coming-low ps) (asked-fits fields.w)
+    coming-fits None = ends-fit 19 (omega arith)
+    coming-fits (Some w) = asked-fits w
 
     show_fits : Fits (show_result r)
     unfolding show_result
@@ -223,11 +185,11 @@ module _ (r : Rehearsal) (good : Good r) where
     call_fits bytes kind.Hold = write-fits (new_by Hold (offer_in (parts (drop 5 bytes))))
     call_fits bytes kind.Commit = write-fits (held_by Commit (which_in (parts (drop 7 bytes))))
     call_fits bytes kind.Withdraw = write-fits (held_by Withdraw (which_in (parts (drop 9 bytes))))
-    call_fits bytes kind.Slot = slot-fits (parts (drop 5 bytes))
+    call_fits bytes kind.Slot = slot-fits (list_of 255 (parts (drop 5 bytes)))
     call_fits bytes kind.BareSlot = bare_fits
-    call_fits bytes kind.Calendar = calendar-fits (parts (drop 9 bytes))
+    call_fits bytes kind.Calendar = calendar-fits (calendar_in (parts (drop 9 bytes)))
     call_fits bytes kind.Show = show_fits
-    call_fits bytes kind.Coming = coming-fits (parts (drop 7 bytes))
+    call_fits bytes kind.Coming = coming-fits (coming_in (parts (drop 7 bytes)))
     call_fits bytes kind.Unknown = ends-fit 19 (omega arith)
 
   record_fits : (bytes : List ℕ) → Fits (rehearse_record r bytes)
@@ -236,7 +198,7 @@ module _ (r : Rehearsal) (good : Good r) where
     where
       go : (t : Bool) → ltb 1 r.place ≡ t → Fits (cond t (call_by r bytes (kind_of bytes)) (start_result r (start_in (parts bytes))))
       go true e = call_fits (good.1 (ltb-true 1 r.place e)) bytes (kind_of bytes)
-      go false e = start_fits (parts bytes)
+      go false e = start_fits (start_in (parts bytes))
 
 -- ---- THE PROGRAM
 

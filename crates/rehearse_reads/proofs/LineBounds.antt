@@ -6,7 +6,8 @@ use mathlib.Core.List.{List, [], ◌∷◌, ◌++◌, map}
 use Prim.Native.Nat.{ℕ, zero, suc, ◌+◌, ◌*◌, ◌<◌, ◌≤◌}
 use native.Mathlib.Omega.{arith}
 use lib.ListN.{length, get_or, length-append}
-use Rattle.listlaws.specs.Lists.{tabulate, gather_of}
+use Rattle.std.specs.List.{flat_map}
+use Rattle.listlaws.specs.Lists.{tabulate}
 use Rattle.decimals.specs.Decimal.{digits_of}
 use Rattle.decimals.specs.Printing.{record_of}
 use Rattle.decimals.proofs.Decimals.{digits-few}
@@ -48,10 +49,10 @@ joined-two (l ∷ a) b = omega (arith, length-append l (joined (a ++ b)), length
 
 module _ (most : ℕ) where
   pub gathered-within : {A : Type 0} (lines : A → List (List ℕ)) (d : A) (l : List A) → ((k : ℕ) → k < length l → length (joined (lines (get_or l k d))) ≤ most)
-      → length (joined (gather_of lines l)) ≤ length l * most
+      → length (joined (flat_map lines l)) ≤ length l * most
   gathered-within lines d [] h = omega arith
   gathered-within lines d (x ∷ l) h =
-      omega (arith, joined-two (lines x) (gather_of lines l), h zero (omega arith), gathered-within lines d l (λ k w. h (suc k) (omega arith)))
+      omega (arith, joined-two (lines x) (flat_map lines l), h zero (omega arith), gathered-within lines d l (λ k w. h (suc k) (omega arith)))
 
   pub tabulated_within : (n : ℕ) (line : ℕ → List ℕ) → ((i : ℕ) → i < n → length (line i) ≤ most)
       → length (joined (tabulate n line)) ≤ n * most

@@ -5,7 +5,7 @@ use mathlib.Core.List.{◌∷◌, ◌++◌}
 use Prim.Native.Nat.{ℕ, ◌+◌, ◌*◌, ◌≤◌}
 use native.Mathlib.Omega.{arith}
 use lib.ListN.{length, length-append}
-use Rattle.listlaws.specs.Lists.{gather_of}
+use Rattle.std.specs.List.{flat_map}
 use Rattle.programs.specs.Advancing.{joined}
 use Rattle.rules.specs.declared.Counters.{Counters}
 use Rattle.rules.specs.StationCalls.{no_station}
@@ -36,7 +36,7 @@ module _ (ch : Channel) (s : SoundChannel ch) (k : ℕ) (h : In64 k) where
   groups-within : length (joined (groups_lines c.groups (group_line k c))) ≤ c.groups * 107
   groups-within = tabulated_within 107 c.groups (λ i. group_line k c (i + 1)) (λ i q. group-line k c (i + 1) h w (omega (arith, w.groups)))
 
-  messages-within : length (joined (gather_of (message_lines k) ch.stations)) ≤ length ch.stations * 298
+  messages-within : length (joined (flat_map (message_lines k) ch.stations)) ≤ length ch.stations * 298
   messages-within = gathered-within 298 (message_lines k) no_station ch.stations (λ i q. message-lines k (station_at ch.stations i) h (s.sound.within i q))
 
   rows-within : length (joined (groups_lines c.groups (wire_line k c.minislots ch.wire))) ≤ c.groups * 401
@@ -48,7 +48,7 @@ module _ (ch : Channel) (s : SoundChannel ch) (k : ℕ) (h : In64 k) where
   unfolding show_lines
   all-within =
       let groups = groups_lines c.groups (group_line k c) in
-      let messages = gather_of (message_lines k) ch.stations in
+      let messages = flat_map (message_lines k) ch.stations in
       let rows = groups_lines c.groups (wire_line k c.minislots ch.wire) in
       omega (
         arith,

@@ -12,7 +12,7 @@ use lib.Dec.{leb, ltb, eqb}
 use lib.ListN.{length, get_or, length-map, length-append, get_or-eq_default}
 use borrow.Author.Tests.{leb-true, eqb-true}
 use Rattle.listlaws.specs.Every.{every_from}
-use Rattle.listlaws.specs.Lists.{each}
+use Rattle.std.specs.List.{list_all}
 use Rattle.listlaws.proofs.Table.{every-at}
 use Rattle.rules.specs.declared.Counters.{Counters}
 use Rattle.rules.specs.declared.Station.{Station}
@@ -58,10 +58,10 @@ counters-line k c h w =
     line-within _ (number_short k h, (omega arith, numbers-short numbers in64))
 
 -- an entry is 65,535 or an index
-entries_in64 : (l : List ℕ) → each entry_within l ≡ true → AllIn64 l
+entries_in64 : (l : List ℕ) → list_all entry_within l ≡ true → AllIn64 l
 entries_in64 [] e = tt
 entries_in64 (x ∷ l) e =
-    let p = and_both (entry_within x) (each entry_within l) e in
+    let p = and_both (entry_within x) (list_all entry_within l) e in
     (go (eqb x 65535) (leb x 923) refl refl p.0, entries_in64 l p.1)
   where
     go : (a b : Bool) → eqb x 65535 ≡ a → leb x 923 ≡ b → a || b ≡ true → In64 x

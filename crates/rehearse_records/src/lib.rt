@@ -21,17 +21,14 @@ fn show_record(r: Rehearsal, next: usize, out: &mut [u8], at: usize) -> Next
     ensures answer { reached_by result ≡ (result_by r (show_result r) next out.old at).answer }
 {
     let channel = r.channel;
-    let stations = channel.stations;
-    let wire = channel.wire;
-    let c = counters_of(stations);
     let after = put_show(
         out,
         at,
         past_first(r.place),
-        c,
-        stations,
+        counters_of(channel.stations),
+        channel.stations,
         channel.count,
-        wire,
+        channel.wire,
     );
     Next {
         progress: Progress::Went,
@@ -53,8 +50,7 @@ pub fn rehearse_record(r: Rehearsal, bytes: &[u8], next: usize, out: &mut [u8], 
     if r.place <= 1 {
         return start_record(r, bytes, next, out, at);
     }
-    let kind = kind_of(bytes);
-    match kind {
+    match kind_of(bytes) {
         Kind::Slot => slot_record(r, bytes, next, out, at),
         Kind::Offer => write_record(r, offer_in(bytes), next, out, at),
         Kind::Hold => write_record(r, hold_in(bytes), next, out, at),

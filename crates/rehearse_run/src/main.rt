@@ -6,9 +6,9 @@
 
 use buffers::count_first;
 use header_line::put_header;
-use rehearse_rounds::rehearse_round;
+use rehearser::Rehearse;
 use rehearsing::begin;
-use runs_cases::line_end;
+use rounds::round;
 use runs_files::{read_full, read_named};
 use runs_text::text;
 use standing::{Run, Wants, after_write, begin_run};
@@ -21,43 +21,26 @@ fn print(rt: &impl Print, out: &[u8], at: usize) -> io::Result<()> {
     text(rt, &out[..n])
 }
 
-// Where a run stands that has a whole list of so many bytes in its input buffer.
-fn with_all(s: Run, count: usize) -> Run {
-    let mut s = s;
-    s.filled = count;
-    s.ended = true;
-    s
-}
-
-// Whether a run goes on once its output was printed.
-fn goes_on(wants: Wants) -> bool {
-    match wants {
-        Wants::Read => false,
-        Wants::Write => true,
-        Wants::End => false,
-    }
-}
-
 // What is printed for the list of a file. A list that fits the buffer has fewer rounds.
 fn print_rehearsed(rt: &(impl Files + Print), name: &[u8]) -> io::Result<()> {
     let mut input_space = [0u8; 65536];
     let mut out_space = [0u8; 65536];
     let input: &mut [u8] = &mut input_space;
     let out: &mut [u8] = &mut out_space;
-    let count = read_named(rt, name, input)?;
+    let filled = read_named(rt, name, input)?;
     let mut r = begin();
-    let mut s = with_all(begin_run(put_header(out, 0)), count);
-    let mut rounds: usize = 65536;
-    while 0 < rounds {
-        let rehearsed = rehearse_round(r, s, input, out);
-        r = rehearsed.rehearsal;
-        let run = rehearsed.run;
-        let wants = run.wants;
-        print(rt, out, run.at)?;
-        s = after_write(run);
-        if goes_on(wants) {
-            rounds -= 1;
-        } else {
+    // the input buffer has the whole list
+    let mut s = Run {
+        filled,
+        ended: true,
+        ..begin_run(put_header(out, 0))
+    };
+    for _ in 0..65536 {
+        let rehearsed = round::<Rehearse>(r, s, input, out);
+        r = rehearsed.state;
+        s = after_write(rehearsed.run);
+        print(rt, out, rehearsed.run.at)?;
+        if !matches!(rehearsed.run.wants, Wants::Write) {
             return Ok(());
         }
     }
@@ -72,18 +55,11 @@ fn run(rt: &(impl Files + Print), name: &[u8]) -> io::Result<()> {
     text(rt, b"\n")
 }
 
-fn runs(rt: &(impl Files + Print), names: &[u8]) -> io::Result<()> {
-    let mut at: usize = 0;
-    while at < names.len() {
-        let end = line_end(names, at);
-        run(rt, &names[at..end])?;
-        at = end + 1;
-    }
-    Ok(())
-}
-
 fn main(rt: HostRuntime) -> io::Result<()> {
     let mut space = [0u8; 65536];
     let n = read_full(&mut rt.reader(), &mut space)?;
-    runs(&rt, &space[..n])
+    for line in space[..n].split_inclusive(|byte| *byte == b'\n') {
+        run(&rt, line.strip_suffix(b"\n").unwrap_or(line))?;
+    }
+    Ok(())
 }

@@ -19,21 +19,17 @@ fn begin_with(r: Rehearsal, started: LocalStarted, next: usize, out: &mut [u8], 
     ensures buffer { out.new ≡ (result_by r (started_result r started) next out.old at).buffer }
     ensures answer { reached_by result ≡ (result_by r (started_result r started) next out.old at).answer }
 {
-    let answer = started.answer;
-    match answer {
+    match started.answer {
         StartAnswer::Refused(number) => end_with(r, number, next, out, at),
-        StartAnswer::Ready => {
-            let channel = started.channel;
-            Next {
-                progress: Progress::Went,
-                rehearsal: Rehearsal {
-                    channel,
-                    place: place_following(r.place),
-                },
-                next,
-                at,
-            }
-        }
+        StartAnswer::Ready => Next {
+            progress: Progress::Went,
+            rehearsal: Rehearsal {
+                channel: started.channel,
+                place: place_following(r.place),
+            },
+            next,
+            at,
+        },
     }
 }
 
@@ -44,13 +40,11 @@ pub fn start_record(r: Rehearsal, bytes: &[u8], next: usize, out: &mut [u8], at:
     ensures answer { reached_by result
         ≡ (result_by r (start_result r (start_in (parts bytes.now))) next out.old at).answer }
 {
-    let fields = start_fields(bytes);
-    if fields.number != 0 {
-        return end_with(r, fields.number, next, out, at);
-    }
-    let indexes = fields.indexes;
-    let count = indexes.count;
-    let values = indexes.values;
+    let Some(fields) = start_fields(bytes) else {
+        return end_with(r, 19, next, out, at);
+    };
+    let count = fields.indexes.count;
+    let values = fields.indexes.values;
     let started = local_channel::start(blank(count), fields.m, fields.n, &values[..count]);
     begin_with(r, started, next, out, at)
 }

@@ -2,11 +2,11 @@
 
 #![tactic(auto)]
 
-ghost use Rattle.std.specs.Prelude.{◌≡◌};
+ghost use Rattle.std.specs.Prelude.{◌≡◌, refl};
 ghost use Rattle.programs.specs.Advancing.{done_advance, advance_of};
 ghost use Rattle.rehearsing.specs.Rehearse.{rehearse_program, reached_by, written_by};
 
-use programs::Progress;
+use programs::{Program, Progress};
 use records::{Cut, cut_record};
 use rehearse_records::rehearse_record;
 use rehearsing::{Next, Rehearsal, end_with};
@@ -45,8 +45,7 @@ pub fn rehearse_next(
     ensures answer { reached_by result
         ≡ (written_by (advance_of rehearse_program r bytes.now start ended) out.old at).answer }
 {
-    let cut = cut_record(bytes, start, LONGEST, ended);
-    match cut {
+    match cut_record(bytes, start, LONGEST, ended) {
         Cut::Record { end, next } => rehearse_record(r, &bytes[start..end], next, out, at),
         Cut::More => Next {
             progress: Progress::More,
@@ -57,4 +56,37 @@ pub fn rehearse_next(
         Cut::Done => finish(r, start, out, at),
         Cut::Broken => end_with(r, 19, start, out, at),
     }
+}
+
+// The program `rehearse`, to be run by what runs any program that reads records.
+pub struct Rehearse;
+
+impl Program for Rehearse {
+    type State = Rehearsal;
+
+    ghost program = { rehearse_program };
+
+    ghost ROOM = { 24576 };
+
+    // The lines of a record take no more than this.
+    const ROOM: usize = 24576;
+
+    fn next(
+        state: Rehearsal,
+        bytes: &[u8],
+        start: usize,
+        ended: bool,
+        out: &mut [u8],
+        at: usize,
+    ) -> programs::Next<Rehearsal> {
+        let n = rehearse_next(state, bytes, start, ended, out, at);
+        programs::Next {
+            progress: n.progress,
+            state: n.rehearsal,
+            next: n.next,
+            at: n.at,
+        }
+    }
+
+    ghost room_is = { refl };
 }

@@ -1,7 +1,7 @@
 -- What each record of `rehearse` leads to: the start of a channel, and then its calls, each the channel's own. A record that is no call of
 -- the form is 19 and ends the output, and so does a start that is refused, with its number; a call that is refused prints a line like any
 -- other. Assumes nothing.
-use Rattle.std.specs.Prelude.{cond, List, [], ◌∷◌, ℕ, ◌-◌, min, ltb, take, drop, replicate}
+use Rattle.std.specs.Prelude.{cond, Option, Some, None, List, [], ◌∷◌, ℕ, ◌-◌, min, ltb, take, drop, replicate}
 use Rattle.fields.specs.Fields.{parts}
 use Rattle.number_lists.specs.declared.NumberList.{NumberList}
 use Rattle.number_lists.specs.NumberList.{list_of}
@@ -12,11 +12,8 @@ use Rattle.call_fields.specs.declared.StartFields.{StartFields}
 use Rattle.call_fields.specs.CallFields.{offer_in, start_in}
 use Rattle.which_fields.specs.WhichFields.{which_in}
 use Rattle.write_fields.specs.declared.WriteFields.{WriteFields}
-use Rattle.write_fields.specs.declared.WriteFields.TheVariants.{At, Broken}
 use Rattle.write_fields.specs.WriteFields.{new_by, held_by}
-use Rattle.calendar_fields.specs.declared.CalendarFields.{CalendarFields}
 use Rattle.calendar_fields.specs.CalendarFields.{calendar_in}
-use Rattle.coming_fields.specs.declared.ComingFields.{ComingFields}
 use Rattle.coming_fields.specs.ComingFields.{coming_in}
 use Rattle.answer_lines.specs.AnswerLines.{answer_line}
 use Rattle.coming_lines.specs.ComingLines.{coming_line}
@@ -27,7 +24,6 @@ use Rattle.rules.specs.declared.Counters.{Counters}
 use Rattle.rules.specs.declared.StartAnswer.{StartAnswer}
 use Rattle.rules.specs.declared.StartAnswer.TheVariants.{Ready, Refused}
 use Rattle.rules.specs.declared.Writing.TheVariants.{Offer, Hold, Commit, Withdraw}
-use Rattle.rules.specs.Refusing.{by_number}
 use Rattle.rules.specs.StationCalls.{no_station}
 use Rattle.channel_rules.specs.Soundness.{table_counters}
 use Rattle.channel_rules.specs.ChannelCalls.{blank_wire}
@@ -69,8 +65,9 @@ indexes_of l = take l.count l.values
 abbrev pub start_of : StartFields → LocalStarted
 start_of s = local_start_of (blank_channel s.indexes.count) s.m s.n (indexes_of s.indexes)
 
-unfoldable pub start_result : Rehearsal → StartFields → Result Rehearsal
-start_result r s = by_number s.number Ends (started_result r (start_of s))
+unfoldable pub start_result : Rehearsal → Option StartFields → Result Rehearsal
+start_result r None = Ends 19
+start_result r (Some s) = started_result r (start_of s)
 
 -- ---- an offer, a hold, a commit, a withdrawal, a slot and a calendar: the call's line, by the counters after it and the group whose slot
 -- ---- was next before it. The number of a call in the list is that of its record where the start does not count
@@ -80,18 +77,20 @@ called_result r called =
     let line = answer_line (r.place - 1) (counters_of r.channel).next (counters_of called.channel) called.answer in
     Goes (with_channel r called.channel) (line ∷ [])
 
-unfoldable pub write_result : Rehearsal → WriteFields → Result Rehearsal
-write_result r (At index w) = called_result r (local_write_of r.channel index w)
-write_result r Broken = Ends 19
+unfoldable pub write_result : Rehearsal → Option WriteFields → Result Rehearsal
+write_result r (Some w) = called_result r (local_write_of r.channel w.index w.writing)
+write_result r None = Ends 19
 
-unfoldable pub slot_result : Rehearsal → NumberList → Result Rehearsal
-slot_result r picks = by_number picks.number Ends (called_result r (local_slot_of r.channel (take picks.count picks.values)))
+unfoldable pub slot_result : Rehearsal → Option NumberList → Result Rehearsal
+slot_result r None = Ends 19
+slot_result r (Some picks) = called_result r (local_slot_of r.channel (take picks.count picks.values))
 
 unfoldable pub bare_result : Rehearsal → Result Rehearsal
 bare_result r = called_result r (local_slot_of r.channel [])
 
-unfoldable pub calendar_result : Rehearsal → CalendarFields → Result Rehearsal
-calendar_result r fields = by_number fields.number Ends (called_result r (local_calendar_of r.channel fields.entries))
+unfoldable pub calendar_result : Rehearsal → Option (List ℕ) → Result Rehearsal
+calendar_result r None = Ends 19
+calendar_result r (Some entries) = called_result r (local_calendar_of r.channel entries)
 
 -- ---- who sends in the coming slots: the channel stays as it was. A list of w entries is lent, of a room for one entry more than a list
 -- ---- may have, so that any longer list is refused by the call's own number
@@ -102,8 +101,9 @@ coming_result_by r coming = Goes (with_channel r r.channel) (coming_line (r.plac
 abbrev pub coming_with : Rehearsal → ℕ → Result Rehearsal
 coming_with r w = coming_result_by r (coming_of (lent_by r.channel) (replicate (min w 1025) 0))
 
-unfoldable pub coming_result : Rehearsal → ComingFields → Result Rehearsal
-coming_result r fields = by_number fields.number Ends (coming_with r fields.w)
+unfoldable pub coming_result : Rehearsal → Option ℕ → Result Rehearsal
+coming_result r None = Ends 19
+coming_result r (Some w) = coming_with r w
 
 -- ---- to be shown the channel
 

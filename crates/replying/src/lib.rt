@@ -17,11 +17,8 @@ fn delivered_now(t: Turn, senders: u8) -> u8
     ensures few { result ≤ senders }
 {
     match t {
-        Turn::Owned { .. } => 0,
-        Turn::Urgent => senders,
-        Turn::Long => senders,
-        Turn::Resolve => 0,
-        Turn::Open => 0,
+        Turn::Urgent | Turn::Long => senders,
+        _ => 0,
     }
 }
 
@@ -39,6 +36,7 @@ fn put_row(wire: [WireRow; 8], group: u8, minislots: [Minislot; 8]) -> [WireRow;
 }
 
 // The reply of a slot that was judged, and whose stations have sent this.
+#[tactic(auto, unfolding(crate::specs::Replying::reply_of))]
 pub fn reply(judged: Judged, wire: [WireRow; 8], sent: Sent) -> CallReply
     requires { Answerable judged sent }
     ensures { result ≡ reply_of judged wire sent }
@@ -46,17 +44,15 @@ pub fn reply(judged: Judged, wire: [WireRow; 8], sent: Sent) -> CallReply
     if judged.number != 0 {
         return refuse(wire, judged.number);
     }
-    let o = judged.outcome;
-    let turn = o.turn;
-    let minislots = sent.minislots;
+    let turn = judged.outcome.turn;
     CallReply {
         answer: Answer::Went {
             turn,
             senders: sent.senders,
             index: sent.index,
             segment: sent.segment,
-            delivered: o.delivered + delivered_now(turn, sent.senders),
+            delivered: judged.outcome.delivered + delivered_now(turn, sent.senders),
         },
-        wire: put_row(wire, o.group, minislots),
+        wire: put_row(wire, judged.outcome.group, sent.minislots),
     }
 }

@@ -8,7 +8,6 @@ ghost use Rattle.rules.specs.Requesting.{requests as requests_of, requested, wai
 ghost use Rattle.rules.specs.Stepping.{request_minislot};
 
 use rules::Condition;
-use turns::less_one;
 
 // The whole slot count of a message, which a request carries.
 pub fn total_of(k: Condition) -> u8
@@ -16,12 +15,12 @@ pub fn total_of(k: Condition) -> u8
 {
     match k {
         Condition::Free => 0,
-        Condition::Fresh { total } => total,
-        Condition::Asked { total, .. } => total,
-        Condition::Resolving { total, .. } => total,
         Condition::Urgent { .. } => 1,
-        Condition::Long { total, .. } => total,
-        Condition::Held { total } => total,
+        Condition::Fresh { total }
+        | Condition::Asked { total, .. }
+        | Condition::Resolving { total, .. }
+        | Condition::Long { total, .. }
+        | Condition::Held { total } => total,
     }
 }
 
@@ -29,25 +28,18 @@ pub fn total_of(k: Condition) -> u8
 fn waits_in(r: u32, g: u8, h: u8) -> bool
     ensures { result ≡ waits_in r g h }
 {
-    if 0 < r { h == g } else { false }
+    0 < r && h == g
 }
 
 // Whether a message requests.
+#[tactic(auto, unfolding(rules::specs::Requesting::requests))]
 pub fn requests(r: u32, g: u8, k: Condition) -> bool
     ensures { result ≡ requests_of r g k }
 {
     match k {
-        Condition::Free => false,
         Condition::Fresh { .. } => r == 0,
-        Condition::Asked { .. } => false,
-        Condition::Resolving { group, place, .. } => if waits_in(r, g, group) {
-            place == 1
-        } else {
-            false
-        },
-        Condition::Urgent { .. } => false,
-        Condition::Long { .. } => false,
-        Condition::Held { .. } => false,
+        Condition::Resolving { group, place, .. } => waits_in(r, g, group) && place == 1,
+        _ => false,
     }
 }
 
@@ -58,54 +50,35 @@ pub fn request_minislot(requesting: bool, pick: u8) -> u8
     if requesting { pick } else { 0 }
 }
 
-// A place of a resolution queue: the first requests, the others move down by 1.
-fn resolve(r: u32, g: u8, pick: u8, group: u8, place: u16, total: u8) -> Condition
-    ensures { result ≡ requested r g pick (Condition.Resolving group place total) }
-{
-    if waits_in(r, g, group) {
-        if place == 1 {
-            return Condition::Asked {
-                group: g,
-                minislot: pick,
-                total,
-            };
-        }
-        return Condition::Resolving {
-            group,
-            place: less_one(place),
-            total,
-        };
-    }
-    Condition::Resolving {
-        group,
-        place,
-        total,
-    }
-}
-
-// The condition after it.
+// The condition after step 3: a message that requests is asked in its picked minislot, and the others of the resolution queue move down
+// by 1.
+#[tactic(auto, unfolding(rules::specs::Requesting::requested))]
 pub fn request(r: u32, g: u8, pick: u8, k: Condition) -> Condition
     ensures { result ≡ requested r g pick k }
 {
     match k {
-        Condition::Free => k,
-        Condition::Fresh { total } => if r == 0 {
+        Condition::Fresh { total } if r == 0 => Condition::Asked {
+            group: g,
+            minislot: pick,
+            total,
+        },
+        Condition::Resolving {
+            group,
+            place,
+            total,
+        } if waits_in(r, g, group) => if place == 1 {
             Condition::Asked {
                 group: g,
                 minislot: pick,
                 total,
             }
         } else {
-            k
+            Condition::Resolving {
+                group,
+                place: place.saturating_sub(1),
+                total,
+            }
         },
-        Condition::Asked { .. } => k,
-        Condition::Resolving {
-            group,
-            place,
-            total,
-        } => resolve(r, g, pick, group, place, total),
-        Condition::Urgent { .. } => k,
-        Condition::Long { .. } => k,
-        Condition::Held { .. } => k,
+        _ => k,
     }
 }

@@ -12,21 +12,14 @@ use rules::{Condition, MessageRecord, Station, Which, Writing};
 fn with_record(o: Which, s: Station, k: Condition) -> Station
     ensures { result ≡ with_record o s k }
 {
-    let c = s.counters;
-    let short = s.short;
-    let long = s.long;
     match o {
         Which::ShortOne => Station {
-            counters: c,
-            index: s.index,
             short: MessageRecord { condition: k },
-            long,
+            ..s
         },
         Which::LongOne => Station {
-            counters: c,
-            index: s.index,
-            short,
             long: MessageRecord { condition: k },
+            ..s
         },
     }
 }
@@ -36,9 +29,8 @@ fn condition_after(w: Writing, total: u8) -> Condition
     ensures { result ≡ written_as w total }
 {
     match w {
-        Writing::Offer { .. } => Condition::Fresh { total },
+        Writing::Offer { .. } | Writing::Commit { .. } => Condition::Fresh { total },
         Writing::Hold { .. } => Condition::Held { total },
-        Writing::Commit { .. } => Condition::Fresh { total },
         Writing::Withdraw { .. } => Condition::Free,
     }
 }

@@ -16,8 +16,7 @@ fn wants_after(progress: Progress) -> Wants
     match progress {
         Progress::Went => Wants::Write,
         Progress::More => Wants::Read,
-        Progress::Done => Wants::End,
-        Progress::Refused(_) => Wants::End,
+        Progress::Done | Progress::Refused(_) => Wants::End,
     }
 }
 
@@ -25,12 +24,7 @@ fn wants_after(progress: Progress) -> Wants
 fn needs_bytes(progress: Progress) -> bool
     ensures { result ≡ needs_bytes progress }
 {
-    match progress {
-        Progress::Went => false,
-        Progress::More => true,
-        Progress::Done => false,
-        Progress::Refused(_) => false,
-    }
+    matches!(progress, Progress::More)
 }
 
 // After a round over the first filled bytes of the input buffer: what became of the last record that was looked at, where the next begins,
@@ -48,20 +42,19 @@ pub fn after_round(
 {
     let wants = wants_after(progress);
     if needs_bytes(progress) {
-        let kept = keep_rest(input, next, filled);
         return Run {
             from: 0,
-            filled: kept,
-            ended: s.ended,
+            filled: keep_rest(input, next, filled),
             at,
             wants,
+            ..s
         };
     }
     Run {
         from: next,
         filled,
-        ended: s.ended,
         at,
         wants,
+        ..s
     }
 }

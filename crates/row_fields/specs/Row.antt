@@ -1,6 +1,6 @@
 -- A row's record (paper: "then 2m fields a row, word and count in turn"; "19: .. a word above 65,535, a count above 255").
 -- How many fields a row must have is asked later: here every field is looked at, however many there are.
-use Rattle.std.specs.Prelude.{Bool, true, cond, ◌&&◌, List, [], ◌∷◌, ℕ, zero, suc, leb, length, replicate}
+use Rattle.std.specs.Prelude.{Bool, true, cond, ◌&&◌, Option, Some, None, List, [], ◌∷◌, ℕ, zero, suc, leb, length}
 use Rattle.fields.specs.Fields.{well_formed, fields_of}
 use Rattle.row_fields.specs.declared.RowFields.{RowFields}
 
@@ -27,17 +27,14 @@ first_ones zero l = []
 first_ones (suc n) [] = 0 ∷ first_ones n []
 first_ones (suc n) (x ∷ l) = x ∷ first_ones n l
 
--- a row that is answered 19
-unfoldable pub broken_row : RowFields
-broken_row = record { number = 19; fields = 0; words = replicate 8 0; counts = replicate 8 0 }
-
--- a row that is answered 0
+-- a row of so many fields, these words and these counts
 abbrev pub row_with : ℕ → List ℕ → List ℕ → RowFields
-row_with n ws cs = record { number = 0; fields = n; words = ws; counts = cs }
+row_with n ws cs = record { fields = n; words = ws; counts = cs }
 
 -- a row of these fields
 unfoldable pub row_from : List ℕ → RowFields
 row_from l = row_with (length l) (first_ones 8 (words_of l)) (first_ones 8 (counts_of l))
 
-unfoldable pub row_of : List ℕ → RowFields
-row_of bytes = cond (well_formed bytes && within_range (fields_of bytes)) (row_from (fields_of bytes)) broken_row
+-- the row of a record, which is answered 19 where there is none
+unfoldable pub row_of : List ℕ → Option RowFields
+row_of bytes = cond (well_formed bytes && within_range (fields_of bytes)) (Some (row_from (fields_of bytes))) None

@@ -36,17 +36,11 @@ fn read_minislots(words: &[u16], counts: &[u8], n: usize) -> RowReading
     let mut minislots = [MinislotFeedback {
         feedback: Feedback::Empty,
     }; 8];
-    let mut j: usize = 0;
-    while j < n {
+    for j in 0..n {
         match read(words[j], counts[j]) {
-            Reading::Heard(feedback) => {
-                minislots[j] = MinislotFeedback { feedback };
-            }
-            Reading::Refused(number) => {
-                return refused(number);
-            }
+            Reading::Heard(feedback) => minislots[j] = MinislotFeedback { feedback },
+            Reading::Refused(number) => return refused(number),
         }
-        j += 1;
     }
     RowReading {
         number: 0,

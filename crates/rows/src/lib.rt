@@ -3,9 +3,20 @@
 #![tactic(auto)]
 
 ghost use Rattle.std.specs.Prelude.{◌≡◌, []};
-ghost use Rattle.rows.specs.Row.{row_answer, weight, feedback_in};
+ghost use Rattle.rows.specs.Row.{row_answer, weight, weight_of, feedback_in};
 
 use minislot::{Feedback, MinislotFeedback, RowReading};
+
+// What a minislot adds to its row's weight.
+fn weight_of(feedback: Feedback) -> u8
+    ensures { result ≡ weight_of feedback }
+{
+    match feedback {
+        Feedback::Empty => 0,
+        Feedback::Single(_, _) => 1,
+        Feedback::Collide => 2,
+    }
+}
 
 // The weight of a row: its Singles plus twice its Collides. The tally is a byte and no sum of it wraps: a row has at most 8 minislots and
 // each adds at most 2, so that it never passes 16, which eight Collides reach (`weight-fits`). The places after a row's last minislot are
@@ -14,16 +25,8 @@ pub fn weigh(minislots: [MinislotFeedback; 8]) -> u8
     ensures { result ≡ weight (feedback_in minislots) }
 {
     let mut tally: u8 = 0;
-    let mut i: usize = 0;
-    while i < 8 {
-        let minislot = minislots[i];
-        let feedback = minislot.feedback;
-        tally += match feedback {
-            Feedback::Empty => 0,
-            Feedback::Single(_, _) => 1,
-            Feedback::Collide => 2,
-        };
-        i += 1;
+    for minislot in &minislots {
+        tally += weight_of(minislot.feedback);
     }
     tally
 }

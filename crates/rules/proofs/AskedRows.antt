@@ -67,10 +67,10 @@ up-add (suc i) j = up-add i (suc j) ∙ omega arith
 module _ (ix : ℕ → ℕ) (K : ℕ) (condition : ℕ → Condition) (outside : (k : ℕ) → K ≤ k → condition k ≡ Free) (g : ℕ) where
   rows : (l : List (List Message)) (j : ℕ) → ((i k : ℕ) → map request_from (seen (of k) l i) ≡ asked_sender g (up j i) k (condition k)) → asked_row ix K condition g (length l) j ≡ map (read ix) l
   rows [] j h = refl
-  rows (x ∷ l) j h = rw (rows l (suc j) (λ i. h (suc i))) (ap (λ (f : Feedback). f ∷ map (read ix) l) (sym (hearing_eq ix (map request_from x) (gather (λ k. asked_sender g j k (condition k)) K) each)))
+  rows (x ∷ l) j h = rw (rows l (suc j) (λ i. h (suc i))) (ap (λ (f : Feedback). f ∷ map (read ix) l) (sym (hearing_eq ix (map request_from x) (gather (λ k. asked_sender g j k (condition k)) K) list_all)))
     where
-      each : (k : ℕ) → of_by (λ s. s.position) k (map request_from x) ≡ of_by (λ s. s.position) k (gather (λ k. asked_sender g j k (condition k)) K)
-      each k =
+      list_all : (k : ℕ) → of_by (λ s. s.position) k (map request_from x) ≡ of_by (λ s. s.position) k (gather (λ k. asked_sender g j k (condition k)) K)
+      list_all k =
           of_by-map request_from (λ s. s.position) k x ∙ h zero k
           ∙ sym (gather-of (λ s. s.position) (λ k. asked_sender g j k (condition k)) (λ a b. asked-own g j a b (condition a)) K (λ k l. rw (outside k l)) k)
 

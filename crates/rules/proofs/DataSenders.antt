@@ -142,12 +142,12 @@ sender-own j zero k = sym (only_if_nil (eqb j k))
 sender-own j (suc s) k = keep_if-only_if (eqb j k) (sender_at j (suc s))
 
 -- the two lists are read alike and have one length
-module _ (K : ℕ) (x : List Sender) (s : ℕ → ℕ) (outside : (k : ℕ) → K ≤ k → s k ≡ 0) (each : (k : ℕ) → keyed k x ≡ sender_if k (s k)) where
+module _ (K : ℕ) (x : List Sender) (s : ℕ → ℕ) (outside : (k : ℕ) → K ≤ k → s k ≡ 0) (list_all : (k : ℕ) → keyed k x ≡ sender_if k (s k)) where
   pub senders-read : (ix : ℕ → ℕ) → hearing ix x ≡ hearing ix (gather (λ k. sender_if k (s k)) K)
-  senders-read ix = hearing_eq ix x (gather (λ k. sender_if k (s k)) K) (λ k. each k ∙ sym (gather-of (λ s. s.position) (λ k. sender_if k (s k)) (λ a b. sender-own a (s a) b) K (λ k l. rw (outside k l)) k))
+  senders-read ix = hearing_eq ix x (gather (λ k. sender_if k (s k)) K) (λ k. list_all k ∙ sym (gather-of (λ s. s.position) (λ k. sender_if k (s k)) (λ a b. sender-own a (s a) b) K (λ k l. rw (outside k l)) k))
 
   pub senders-length : length x ≡ length (gather (λ k. sender_if k (s k)) K)
   senders-length =
-      length-total (λ s. s.position) K x (λ k l. each k ∙ rw (outside k l))
-      ∙ total-cong K _ _ (λ k. ap length (each k))
+      length-total (λ s. s.position) K x (λ k l. list_all k ∙ rw (outside k l))
+      ∙ total-cong K _ _ (λ k. ap length (list_all k))
       ∙ sym (length-gather (λ (z : Sender). z.position) (λ k. sender_if k (s k)) (λ a b. sender-own a (s a) b) K (λ k l. rw (outside k l)))

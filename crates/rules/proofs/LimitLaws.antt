@@ -7,7 +7,7 @@ use lib.Dec.{leb, ltb, eqb}
 use lib.ListN.{length}
 use borrow.Author.Tests.{leb-true, ltb-false, eqb-true}
 use Rattle.listlaws.specs.Every.{every_from}
-use Rattle.listlaws.specs.Lists.{each}
+use Rattle.std.specs.List.{list_all}
 use Rattle.rules.specs.declared.Counters.{Counters}
 use Rattle.rules.specs.declared.Places.{Places}
 use Rattle.rules.specs.declared.Station.{Station}
@@ -59,7 +59,7 @@ within-limits c e =
 pub record CalendarIn (c : Counters) : Type 0 where
   pub position : c.position ≤ 23
   pub size : length c.calendar ≡ 24
-  pub entries : each entry_within c.calendar ≡ true
+  pub entries : list_all entry_within c.calendar ≡ true
   pub free : some_free c.calendar ≡ true
 
 pub calendar-in : (c : Counters) → calendar_within c ≡ true → CalendarIn c
@@ -67,7 +67,7 @@ unfolding calendar_within entries_within
 calendar-in c e =
     let p = (and-eq-true_iff (leb c.position 23 && entries_within c.calendar) (some_free c.calendar)).0 e in
     let q = (and-eq-true_iff (leb c.position 23) (entries_within c.calendar)).0 p.0 in
-    let r = (and-eq-true_iff (eqb (length c.calendar) 24) (each entry_within c.calendar)).0 q.1 in
+    let r = (and-eq-true_iff (eqb (length c.calendar) 24) (list_all entry_within c.calendar)).0 q.1 in
     record { position = leb-true c.position 23 q.0; size = eqb-true (length c.calendar) 24 r.0; entries = r.1; free = p.1 }
 
 -- the two arrays have a place for each of eight groups

@@ -149,11 +149,11 @@ module _ (ix : ℕ → ℕ) (K k : ℕ) (I : Indexes ix K) (here : k < K) where
     abbrev senders_in : ℕ → List Sender
     senders_in j = gather (λ i. asked_sender g j i (condition i)) (short_record K)
 
-    each : (j i : ℕ) → keyed i (senders_in j) ≡ asked_sender g j i (condition i)
-    each j i = gather-of (λ s. s.position) (λ i. asked_sender g j i (condition i)) (λ a b. asked-own g j a b (condition a)) (short_record K) (λ i l. rw (outside i l)) i
+    list_all : (j i : ℕ) → keyed i (senders_in j) ≡ asked_sender g j i (condition i)
+    list_all j i = gather-of (λ s. s.position) (λ i. asked_sender g j i (condition i)) (λ a b. asked-own g j a b (condition a)) (short_record K) (λ i l. rw (outside i l)) i
 
     none : (j i : ℕ) → short_record K ≤ i → keyed i (senders_in j) ≡ []
-    none j i l = each j i ∙ rw (outside i l)
+    none j i l = list_all j i ∙ rw (outside i l)
 
     -- the record that listens, and the other one, which sends nothing in the group
     by_record : (r o j : ℕ) → 1 ≤ j → holder r ≡ k → asked_sender g j o (condition o) ≡ []
@@ -163,7 +163,7 @@ module _ (ix : ℕ → ℕ) (K k : ℕ) (I : Indexes ix K) (here : k < K) where
       where
         go : (b : Bool) → eqb j (own_minislot g (condition r)) ≡ b
             → cond b (hears_here (ix k) (own_total (condition r)) (leaves jx (senders_in j)).word (hearing jx (senders_in j))) (hears_elsewhere (ix k) (hearing jx (senders_in j))) ≡ true
-        go true w = hears-here r (own_total (condition r)) (senders_in j) q (each j r ∙ own-mine g j r (condition r) lo w)
+        go true w = hears-here r (own_total (condition r)) (senders_in j) q (list_all j r ∙ own-mine g j r (condition r) lo w)
         go false w = away (own-other g j r (condition r) w)
 
     -- the record that is asked in the group, as specs/OwnHearing has it
@@ -174,7 +174,7 @@ module _ (ix : ℕ → ℕ) (K k : ℕ) (I : Indexes ix K) (here : k < K) where
     hears-at j lo = go (eqb (own_minislot g (condition (short_record k))) 0) refl
       where
         elsewhere : asked_sender g j (short_record k) (condition (short_record k)) ≡ [] → asked_sender g j (long_record k) (condition (long_record k)) ≡ [] → hears_elsewhere (ix k) (hearing jx (senders_in j)) ≡ true
-        elsewhere a b = hears-elsewhere (senders_in j) (each j (short_record k) ∙ a) (each j (long_record k) ∙ b) (none j)
+        elsewhere a b = hears-elsewhere (senders_in j) (list_all j (short_record k) ∙ a) (list_all j (long_record k) ∙ b) (none j)
 
         go : (b : Bool) → eqb (own_minislot g (condition (short_record k))) 0 ≡ b
             → hears_at (ix k) (own_minislot g (cond b (condition (long_record k)) (condition (short_record k)))) (own_total (cond b (condition (long_record k)) (condition (short_record k)))) j

@@ -364,8 +364,8 @@ module _ (S : Start) (pick : ℕ → ℕ) (jl : (k : ℕ) → 1 ≤ pick k) (jh 
         go-crowds g false = R.crowds g
 
     -- the answer
-    each : (k : ℕ) → of_by (λ s. s.position) k (sent_by p) ≡ sender_if k (table_sends t heard b c k)
-    each k =
+    list_all : (k : ℕ) → of_by (λ s. s.position) k (sent_by p) ≡ sender_if k (table_sends t heard b c k)
+    list_all k =
         rw (first_eq k, ec, owner_eq S p t R)
         (send_ok S k (R.message k) (plain_owner p) (plain_settled p).urgent (plain_settled p).long (plain_settled p).resolution p.fresh (first S p (t.condition k)) (R.agrees k).mine s.fits (s.urgent zero) (s.long zero)
         ((R.agrees k).fresh
@@ -378,7 +378,7 @@ module _ (S : Start) (pick : ℕ → ℕ) (jl : (k : ℕ) → 1 ≤ pick k) (jh 
     silent k l = rw (R.outside k l) (sends-free (table_owner t) c.urgent c.long c.resolution)
 
     answer-senders : length (segments_sent p) ≡ length (gather (λ k. sender_if k (table_sends t heard b c k)) (records S))
-    answer-senders = sym (length-map (segments_sent p) data_from) ∙ senders-length (records S) (sent_by p) (table_sends t heard b c) silent each
+    answer-senders = sym (length-map (segments_sent p) data_from) ∙ senders-length (records S) (sent_by p) (table_sends t heard b c) silent list_all
 
     delivered_eq :
         grown p.history ((plain_settled p).history ++ served (plain_owner p) (plain_settled p).urgent (plain_settled p).long)
@@ -389,7 +389,7 @@ module _ (S : Start) (pick : ℕ → ℕ) (jl : (k : ℕ) → 1 ≤ pick k) (jh 
 
     -- the senders are read alike
     read_alike : hearing (index_of S) (sent_by p) ≡ hearing (index_of S) (gather (λ k. sender_if k (table_sends t heard b c k)) (records S))
-    read_alike = senders-read (records S) (sent_by p) (table_sends t heard b c) silent each (index_of S)
+    read_alike = senders-read (records S) (sent_by p) (table_sends t heard b c) silent list_all (index_of S)
 
     answer-same : plain_answer S p (plain_went S pick p (plain_settled p)) (plain_settled p) ≡ table_answer S t heard b c
     answer-same =

@@ -1,7 +1,7 @@
 -- The calendar (paper 02, T-02): who owns the data slot at each of 24 positions, and the position of the coming slot. Assumes nothing.
 use Rattle.std.specs.Prelude.{Bool, false, ◌&&◌, ◌||◌, cond, List, [], ◌∷◌, ℕ, ◌+◌, leb, eqb, length, get_or, replicate}
 use Rattle.std.proofs.Math.Option.{Option, none, some}
-use Rattle.listlaws.specs.Lists.{each}
+use Rattle.std.specs.List.{list_all}
 use Rattle.rules.specs.declared.Counters.{Counters}
 
 -- the positions of a calendar, and the entry that stands for a free one
@@ -21,7 +21,7 @@ abbrev pub entry_within : ℕ → Bool
 entry_within x = eqb x free_entry || leb x 923
 
 unfoldable pub entries_within : List ℕ → Bool
-entries_within entries = eqb (length entries) positions && each entry_within entries
+entries_within entries = eqb (length entries) positions && list_all entry_within entries
 
 unfoldable pub some_free : List ℕ → Bool
 some_free [] = false

@@ -5,7 +5,7 @@
 use minislot::Minislot;
 
 // What every station knows of the queues (paper: the counters). Group g stands at g − 1 of the two arrays.
-#[derive(Clone, Copy)]
+#[derive(Clone, Copy, PartialEq, Eq)]
 pub struct Counters {
     // minislots of a slot (paper: m)
     pub minislots: u8,
@@ -57,8 +57,9 @@ pub enum Turn {
 
 // Where a message stands (paper: the conditions of a box). A held one is kept for the automation: it neither asks nor sends until it is
 // committed.
-#[derive(Clone, Copy)]
+#[derive(Clone, Copy, Default)]
 pub enum Condition {
+    #[default]
     Free,
     Fresh { total: u8 },
     Asked { group: u8, minislot: u8, total: u8 },
@@ -126,7 +127,7 @@ pub struct Station {
 }
 
 // A message record of a table: its station's index, and where its message stands.
-#[derive(Clone, Copy)]
+#[derive(Clone, Copy, Default)]
 pub struct TableMessage {
     pub index: u16,
     pub condition: Condition,

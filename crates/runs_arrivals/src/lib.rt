@@ -5,6 +5,9 @@
 
 ghost use Rattle.std.specs.Prelude.{◌≡◌, ◌≤◌, length};
 
+use std::array;
+
+// The questions. They are numbers, since each goes into the arithmetic.
 pub const ARRIVES: u64 = 1;
 
 pub const KIND: u64 = 2;
@@ -25,46 +28,33 @@ pub fn draw(s: u64, k: u64, question: u64, bound: u64) -> u64
 {
     let asked = s % 65536 * 65536 + k % 256 * 256 + question % 256;
     let x = scrambled(scrambled(scrambled(asked)));
-    if bound == 0 {
-        return 0;
-    }
-    x / 256 % bound
+    if bound == 0 { 0 } else { x / 256 % bound }
 }
 
 // Bytes of a message: most are of one slot, three of 64 of up to ten, one of up to fifty; of these one in sixteen is the longest.
 pub fn size(s: u64, k: u64) -> usize
     ensures { (1 ≤ result) × (result ≤ 12240) }
 {
-    let kind = draw(s, k, KIND, 64);
-    if kind < 60 {
-        return (1 + draw(s, k, SIZE, 48) % 48) as usize;
+    match draw(s, k, KIND, 64) {
+        0..=59 => (1 + draw(s, k, SIZE, 48) % 48) as usize,
+        60..=62 => (1 + draw(s, k, SIZE, 480) % 480) as usize,
+        _ => match draw(s, k, SIZE, 2400) % 2400 {
+            bytes if bytes % 16 == 0 => 12240,
+            bytes => (1 + bytes) as usize,
+        },
     }
-    if kind < 63 {
-        return (1 + draw(s, k, SIZE, 480) % 480) as usize;
-    }
-    let bytes = draw(s, k, SIZE, 2400) % 2400;
-    if bytes % 16 == 0 {
-        return 12240;
-    }
-    (1 + bytes) as usize
 }
 
 // A pick of one of m minislots.
 pub fn pick(s: u64, k: u64, m: u8) -> u8
     ensures { (1 ≤ result) × (result ≤ 8) }
 {
-    (1 + draw(s, k, PICK, m as u64) % 8) as u8
+    (1 + draw(s, k, PICK, u64::from(m)) % 8) as u8
 }
 
 // A pick of one of m minislots for each of 66 stations.
 pub fn picks_of(s: u64, m: u8) -> [u8; 66]
     ensures { length result ≡ 66 }
 {
-    let mut picks = [0u8; 66];
-    let mut k: usize = 0;
-    while k < 66 {
-        picks[k] = pick(s, k as u64, m);
-        k += 1;
-    }
-    picks
+    array::from_fn(|k| pick(s, k as u64, m))
 }

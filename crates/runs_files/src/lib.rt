@@ -14,6 +14,7 @@ pub fn read_full(reader: &mut impl Read, space: &mut [u8]) -> io::Result<usize>
     ensures taken { IfOk result (λ n. n ≡ length (take n space.new)) }
 {
     let mut done = 0;
+    // by hand: std's read_to_end puts what it reads into a Vec, and nothing is allocated here
     while done < space.len() {
         let n = reader.read(&mut space[done..])?;
         if n == 0 {
@@ -26,10 +27,7 @@ pub fn read_full(reader: &mut impl Read, space: &mut [u8]) -> io::Result<usize>
 
 // The name as text, as std wants it of a file.
 fn name_text(name: &[u8]) -> io::Result<&str> {
-    match str::from_utf8(name) {
-        Ok(text) => Ok(text),
-        Err(_) => Err(io::Error::from(io::ErrorKind::InvalidFilename)),
-    }
+    str::from_utf8(name).map_err(|_| io::Error::from(io::ErrorKind::InvalidFilename))
 }
 
 // Reads the file of this name as far as the buffer has room, and gives how many bytes came.

@@ -2,7 +2,7 @@
 
 #![tactic(auto)]
 
-ghost use Rattle.std.specs.Prelude.{◌≡◌, [], min, length};
+ghost use Rattle.std.specs.Prelude.{◌≡◌, [], length};
 ghost use Rattle.segments.specs.Segment.{segment_of, segment_number};
 
 use message::{SlotTotal, slots};
@@ -14,12 +14,6 @@ pub fn refuse<'a>(message: &'a [u8], refusal: u8, number: &mut u8) -> &'a [u8]
 {
     *number = refusal;
     &message[0..0]
-}
-
-fn least(a: usize, b: usize) -> usize
-    ensures { result ≡ min a b }
-{
-    if a < b { a } else { b }
 }
 
 // Segment j of a message: the sender's own bytes, handed back as a part of the message lent, which stays as it is. The
@@ -40,6 +34,6 @@ pub fn segment<'a>(message: &'a [u8], j: usize, number: &mut u8) -> &'a [u8]
     }
     *number = 0;
     let from = 48 * (j - 1);
-    let end = least(from + 48, bytes);
+    let end = (from + 48).min(bytes);
     &message[from..end]
 }

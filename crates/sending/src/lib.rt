@@ -11,10 +11,8 @@ use minislot::Minislot;
 use requests::{carry, place};
 use rules::{Sent, SlotAnswer, StationSlot, Turn};
 
-// The most data senders that are counted.
-const MOST_SENDERS: u8 = 255;
-
 // Nobody has sent anything.
+#[tactic(auto, unfolding(crate::specs::Gathered::silence))]
 pub fn silence() -> Sent
     ensures { result ≡ silence_of }
 {
@@ -30,20 +28,19 @@ pub fn silence() -> Sent
 fn place_request(minislot: u8, index: u16, total: u8, row: [Minislot; 8]) -> [Minislot; 8]
     ensures { result ≡ placed minislot (carries (station_request index total)) row }
 {
-    if minislot < 1 {
-        return row;
+    if minislot == 0 {
+        row
+    } else {
+        place(minislot, carry(index, total), row)
     }
-    place(minislot, carry(index, total), row)
 }
 
+// One data sender more, counted up to 255.
+#[tactic(auto, unfolding(crate::specs::Gathered::one_more))]
 fn one_more(senders: u8) -> u8
     ensures { result ≡ one_more senders }
 {
-    if senders < MOST_SENDERS {
-        senders + 1
-    } else {
-        senders
-    }
+    senders.saturating_add(1)
 }
 
 // Whether a station sends data: in an owned slot its owner alone, else whoever sends a segment of its message.
@@ -52,56 +49,50 @@ fn speaks(turn: Turn, index: u16, segment: u8) -> bool
 {
     match turn {
         Turn::Owned { owner } => index == owner,
-        Turn::Urgent => 0 < segment,
-        Turn::Long => 0 < segment,
-        Turn::Resolve => 0 < segment,
-        Turn::Open => 0 < segment,
+        _ => 0 < segment,
     }
 }
 
 // A station's data joins, if it sends any: a stream as segment 0. A lone sender is named as long as it is alone.
+#[tactic(auto, unfolding(crate::specs::Gathered::with_data, crate::specs::Gathered::one_more))]
 fn add_data(turn: Turn, index: u16, segment: u8, sent: Sent) -> Sent
     ensures { result ≡ with_data turn index segment sent }
 {
     if !speaks(turn, index, segment) {
         return sent;
     }
-    let minislots = sent.minislots;
     if sent.senders == 0 {
         return Sent {
-            minislots,
             senders: 1,
             index,
             segment,
+            ..sent
         };
     }
     Sent {
-        minislots,
         senders: one_more(sent.senders),
         index: 0,
         segment: 0,
+        ..sent
     }
 }
 
 // One station's slot joins those before it.
+#[tactic(auto, unfolding(crate::specs::Gathered::gathered))]
 pub fn gather(r: StationSlot, sent: Sent) -> Sent
     ensures { result ≡ gathered sent r }
 {
-    let answer = r.answer;
-    let index = r.station.index;
-    match answer {
+    match r.answer {
         SlotAnswer::Went {
             turn,
             minislot,
             segment,
         } => {
+            let index = r.station.index;
             let data = add_data(turn, index, segment, sent);
-            let row = data.minislots;
             Sent {
-                minislots: place_request(minislot, index, r.request, row),
-                senders: data.senders,
-                index: data.index,
-                segment: data.segment,
+                minislots: place_request(minislot, index, r.request, data.minislots),
+                ..data
             }
         }
         SlotAnswer::Refused(_) => sent,

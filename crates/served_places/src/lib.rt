@@ -17,10 +17,8 @@ fn put(served: &mut [u16], had: Had, w: usize, index: u16)
     let first = had.first as usize;
     let last = least(first + had.count as usize, w);
     let end = least(last, served.len());
-    let mut k = first;
-    while k < end {
+    for k in first..end {
         served[k] = index;
-        k += 1;
     }
 }
 
@@ -28,13 +26,8 @@ fn put(served: &mut [u16], had: Had, w: usize, index: u16)
 fn put_station(served: &mut [u16], h: u16, w: usize, s: Station)
     ensures { served.new ≡ put_station_of w h served.old s }
 {
-    let index = s.index;
-    let short = s.short;
-    let long = s.long;
-    let condition = short.condition;
-    put(served, places_had(h, condition), w, index);
-    let condition = long.condition;
-    put(served, places_had(h, condition), w, index);
+    put(served, places_had(h, s.short.condition), w, s.index);
+    put(served, places_had(h, s.long.condition), w, s.index);
 }
 
 // Who is served at each of the first w places, of 1,024 at most, by the first `count` stations, or by all 64 where there are no more, where
@@ -44,11 +37,8 @@ pub fn served(stations: [Station; 64], count: usize, h: u16, w: usize) -> [u16; 
 {
     let n = least(count, 64);
     let mut served = nobody_served();
-    let mut i: usize = 0;
-    while i < n {
-        let s = stations[i];
-        put_station(&mut served, h, w, s);
-        i += 1;
+    for i in 0..n {
+        put_station(&mut served, h, w, stations[i]);
     }
     served
 }

@@ -8,20 +8,18 @@ ghost use Rattle.rules.specs.Serving.{sends as sends_of, urgent_segment, long_se
 
 use requesting::{requests, total_of};
 use rules::{Condition, Turn};
-use turns::less_one;
 
 // The slots of a message that wait.
 pub fn waiting(k: Condition) -> u8
     ensures { result ≡ waiting_of k }
 {
     match k {
-        Condition::Free => 0,
-        Condition::Fresh { total } => total,
-        Condition::Asked { total, .. } => total,
-        Condition::Resolving { total, .. } => total,
+        Condition::Free | Condition::Held { .. } => 0,
+        Condition::Fresh { total }
+        | Condition::Asked { total, .. }
+        | Condition::Resolving { total, .. } => total,
         Condition::Urgent { .. } => 1,
         Condition::Long { left, .. } => left,
-        Condition::Held { .. } => 0,
     }
 }
 
@@ -29,13 +27,8 @@ fn urgent_segment(k: Condition) -> u8
     ensures { result ≡ urgent_segment k }
 {
     match k {
-        Condition::Free => 0,
-        Condition::Fresh { .. } => 0,
-        Condition::Asked { .. } => 0,
-        Condition::Resolving { .. } => 0,
-        Condition::Urgent { place } => if place == 1 { 1 } else { 0 },
-        Condition::Long { .. } => 0,
-        Condition::Held { .. } => 0,
+        Condition::Urgent { place: 1 } => 1,
+        _ => 0,
     }
 }
 
@@ -43,50 +36,38 @@ fn urgent_segment(k: Condition) -> u8
 fn next_segment(left: u8, total: u8) -> u8
     ensures { result ≡ total - (left - 1) }
 {
-    let after = less_one(left as u16) as u8;
-    if after < total { total - after } else { 0 }
+    total.saturating_sub(left.saturating_sub(1))
 }
 
 fn long_segment(k: Condition) -> u8
     ensures { result ≡ long_segment k }
 {
     match k {
-        Condition::Free => 0,
-        Condition::Fresh { .. } => 0,
-        Condition::Asked { .. } => 0,
-        Condition::Resolving { .. } => 0,
-        Condition::Urgent { .. } => 0,
-        Condition::Long { first, left, total } => if first == 1 {
-            next_segment(left, total)
-        } else {
-            0
-        },
-        Condition::Held { .. } => 0,
+        Condition::Long {
+            first: 1,
+            left,
+            total,
+        } => next_segment(left, total),
+        _ => 0,
     }
 }
 
 fn open_segment(requesting: bool, total: u8) -> u8
     ensures { result ≡ open_segment requesting total }
 {
-    if requesting {
-        if total == 1 {
-            return 1;
-        }
-        return 0;
-    }
-    0
+    u8::from(requesting && total == 1)
 }
 
 // The segment that a message sends in a slot of group g, 0 for none, from its condition after step 1; r is the group's RQ then. In an
 // owned slot no message sends.
+#[tactic(auto, unfolding(rules::specs::Serving::sends))]
 pub fn sends(t: Turn, r: u32, g: u8, k: Condition) -> u8
     ensures { result ≡ sends_of t r g k }
 {
     match t {
-        Turn::Owned { .. } => 0,
+        Turn::Owned { .. } | Turn::Resolve => 0,
         Turn::Urgent => urgent_segment(k),
         Turn::Long => long_segment(k),
-        Turn::Resolve => 0,
         Turn::Open => open_segment(requests(r, g, k), total_of(k)),
     }
 }

@@ -30,8 +30,5 @@ pub fn calendar_number(
     if !entries_on(stations, n, entries) {
         return 20;
     }
-    if !some_free(entries) {
-        return 21;
-    }
-    0
+    if some_free(entries) { 0 } else { 21 }
 }

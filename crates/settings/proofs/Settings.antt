@@ -1,13 +1,14 @@
 -- THE LAW OF SETTING A CALENDAR: its records written over the lent table, its wire and its answer are those of the channel's definition. Assumes nothing.
-use mathlib.Core.Path.{◌≡◌, refl, sym, ap, ◌∙◌}
+use mathlib.Core.Path.{◌≡◌, sym, ap, ◌∙◌}
 use mathlib.Core.Bool.{Bool, true, false, cond}
-use mathlib.Core.List.{List, [], ◌∷◌, map}
+use mathlib.Core.List.{List, map}
 use mathlib.Core.Logic.{by_cases}
-use Prim.Native.Nat.{ℕ, zero, suc, ◌≤◌, ◌<◌}
+use Prim.Native.Nat.{ℕ, ◌≤◌, ◌<◌}
 use native.Mathlib.Omega.{arith}
 use native.Mathlib.Decide.{dec_lt}
 use lib.Dec.{eqb}
-use lib.ListN.{length, take, length-map}
+use lib.ListN.{length, length-map}
+use Rattle.std.proofs.lemmas.List.{take-map}
 use Rattle.listlaws.specs.Steps.{all_steps, latter}
 use Rattle.listlaws.proofs.Steps.{all_steps-whole}
 use Rattle.rules.specs.declared.Station.{Station}
@@ -22,11 +23,6 @@ use Rattle.calls.specs.Replies.{refused_decided, decided_left}
 use Rattle.calls.proofs.ByValue.{many_false, array-loaded, array-many, refused-left}
 use Rattle.setting_numbers.proofs.Numbers.{calendar_14}
 use Rattle.settings.specs.Setting.{set_of, setting_of}
-
-take-map : {A B : Type 0} (f : A → B) (n : ℕ) (l : List A) → take n (map f l) ≡ map f (take n l)
-take-map f zero l = refl
-take-map f (suc n) [] = refl
-take-map {B = B} f (suc n) (x ∷ l) = ap (λ (t : List B). f x ∷ t) (take-map f n l)
 
 module _ (ys : List Station) (wire : List WireRow) (entries : List ℕ) where
   -- the records of the copy, written over the table, are the table's own

@@ -12,19 +12,14 @@ use rules::{Answer, Station, WireRow};
 use setting_numbers::calendar_number;
 use table::{Loaded, hold};
 
-// The records of a copy of the table.
-const RECORDS: usize = 64;
-
 // Every record with these entries.
 fn calendars_on(stations: [Station; 64], entries: [u16; 24]) -> [Station; 64]
     ensures { result ≡ map (calendar_on entries) stations }
 {
     let mut after = stations;
-    let mut i: usize = 0;
-    while i < RECORDS {
-        let s = stations[i];
-        after[i] = calendar_on(s, entries);
-        i += 1;
+    // an array's `map` tells its calls and not its result
+    for (i, s) in stations.iter().enumerate() {
+        after[i] = calendar_on(*s, entries);
     }
     after
 }
@@ -43,6 +38,7 @@ fn set(stations: [Station; 64], n: usize, wire: [WireRow; 8], entries: [u16; 24]
 }
 
 // A calendar on the first n of the records.
+#[tactic(auto, unfolding(crate::specs::Setting::setting_of))]
 pub fn calendar(
     stations: [Station; 64],
     n: usize,
@@ -62,6 +58,5 @@ pub fn calendar(
 pub fn place_calendar(d: Loaded, wire: [WireRow; 8], entries: [u16; 24]) -> Decided
     ensures { result ≡ setting_of d.stations d.count wire entries }
 {
-    let stations = d.stations;
-    calendar(stations, d.count, wire, entries)
+    calendar(d.stations, d.count, wire, entries)
 }

@@ -1,7 +1,7 @@
 -- The lines that `show` of `rehearse` prints of a channel: the counters, the owners, each group's RQ and Open mark, a line for each of the
 -- two message records of a station, and each group's row on the wire. A line begins with the call's number in the list. Assumes nothing.
 use Rattle.std.specs.Prelude.{List, ◌∷◌, ◌++◌, ℕ}
-use Rattle.listlaws.specs.Lists.{gather_of}
+use Rattle.std.specs.List.{flat_map}
 use Rattle.rules.specs.declared.Counters.{Counters}
 use Rattle.rules.specs.declared.Station.{Station}
 use Rattle.rules.specs.declared.WireRow.{WireRow}
@@ -15,5 +15,5 @@ show_lines k c stations wire =
     counters_line k c
     ∷ owners_line k c
     ∷ groups_lines c.groups (group_line k c)
-    ++ gather_of (message_lines k) stations
+    ++ flat_map (message_lines k) stations
     ++ groups_lines c.groups (wire_line k c.minislots wire)

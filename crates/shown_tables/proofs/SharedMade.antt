@@ -14,7 +14,7 @@ use lib.ListN.{length, get_or}
 use borrow.Author.Tests.{eqb-true, leb-true, le-ltb}
 use Rattle.minislot.specs.declared.Minislot.{Minislot}
 use Rattle.listlaws.specs.Every.{every_from}
-use Rattle.listlaws.specs.Lists.{each}
+use Rattle.std.specs.List.{list_all}
 use Rattle.listlaws.proofs.Beyond.{get_d_any}
 use Rattle.listlaws.proofs.Table.{every-at}
 use Rattle.rules.specs.declared.Counters.{Counters}
@@ -282,7 +282,7 @@ module _ (stations : List Station) (wire : List WireRow) (some : 1 ≤ length st
   unfolding owners_sound entries_on
   owners-on =
       sym (entries-same stations (table_counters stations).calendar)
-      ∙ (and_both (eqb (length (table_counters stations).calendar) positions) (each (entry_on stations) (table_counters stations).calendar) (sound-tests stations wire sound).owners).1
+      ∙ (and_both (eqb (length (table_counters stations).calendar) positions) (list_all (entry_on stations) (table_counters stations).calendar) (sound-tests stations wire sound).owners).1
 
   showable : Showable (start_made stations) (table_shown stations)
   showable =

@@ -7,7 +7,7 @@ use Prim.Native.Nat.{ℕ, ◌≤◌}
 use native.Mathlib.Omega.{arith}
 use lib.ListN.{length, length-map}
 use borrow.Author.Tests.{eq-eqb}
-use Rattle.listlaws.specs.Lists.{each}
+use Rattle.std.specs.List.{list_all}
 use Rattle.rules.specs.declared.Station.{Station}
 use Rattle.rules.specs.Limits.{between}
 use Rattle.rules.specs.Calls.{Start, Call}
@@ -90,4 +90,4 @@ slot-goes ch here sound calls picks p =
     let after = channel_after ch calls in
     let (there, kept) = after-sound ch here sound calls in
     goes_through_lem after there kept picks
-    (record { all = p.all ∙ sym (as_many ch here sound calls); within = ap (λ (m : ℕ). each (λ (pick : ℕ). between 1 pick m) picks) (same-m ch here sound calls) ∙ p.within })
+    (record { all = p.all ∙ sym (as_many ch here sound calls); within = ap (λ (m : ℕ). list_all (λ (pick : ℕ). between 1 pick m) picks) (same-m ch here sound calls) ∙ p.within })

@@ -11,7 +11,7 @@ use borrow.Author.Tests.{not-true}
 use Rattle.minislot.specs.declared.Feedback.{Feedback}
 use Rattle.minislot.specs.declared.Feedback.TheVariants.{Empty, Single, Collide}
 use Rattle.minislot.specs.declared.Minislot.{Minislot}
-use Rattle.listlaws.specs.Lists.{each}
+use Rattle.std.specs.List.{list_all}
 use Rattle.listlaws.specs.Steps.{all_steps, each_with}
 use Rattle.rules.specs.declared.Acted.{Acted}
 use Rattle.rules.specs.declared.Condition.{Condition}
@@ -89,11 +89,11 @@ step_in_row o s k h =
     asker_in_row (acts_of o s.short.condition k) (acts_beside o s.short.condition s.long.condition k)
     (acts_in-row o s.short.condition k h) (beside_in_row o s.short.condition s.long.condition k h)
 
-all_in-row : (o : Outcome) (m : ℕ) → m ≤ 8 → (l : List Station) (ks : List ℕ) → each (λ (pick : ℕ). between 1 pick m) ks ≡ true → AllInRow (each_with (step_of o) l ks)
+all_in-row : (o : Outcome) (m : ℕ) → m ≤ 8 → (l : List Station) (ks : List ℕ) → list_all (λ (pick : ℕ). between 1 pick m) ks ≡ true → AllInRow (each_with (step_of o) l ks)
 all_in-row o m h [] ks e = tt
 all_in-row o m h (s ∷ l) [] e = tt
 all_in-row o m h (s ∷ l) (k ∷ ks) e =
-    let p = and_both (between 1 k m) (each (λ (pick : ℕ). between 1 pick m) ks) e in
+    let p = and_both (between 1 k m) (list_all (λ (pick : ℕ). between 1 pick m) ks) e in
     (step_in_row o s k (omega (arith, between-bounds 1 k m p.0)), all_in-row o m h l ks p.1)
 
 -- ---- what the row delivers

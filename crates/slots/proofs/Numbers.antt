@@ -5,7 +5,7 @@ use mathlib.Core.List.{List}
 use Prim.Native.Nat.{ℕ}
 use lib.ListN.{length}
 use borrow.Author.Tests.{eq-eqb, ne_eqb, eqb-true}
-use Rattle.listlaws.specs.Lists.{each}
+use Rattle.std.specs.List.{list_all}
 use Rattle.rules.specs.Limits.{between}
 use Rattle.rules.specs.Queueing.{step_one_of}
 use Rattle.channel_rules.specs.Soundness.{sound_table, table_counters}
@@ -19,7 +19,7 @@ pub record Passed (ch : Channel) (picks : List ℕ) : Type 0 where
   pub some : has_stations ch.stations ≡ true
   pub sound : sound_table ch.stations ch.wire ≡ true
   pub same : length picks ≡ length ch.stations
-  pub picked : each (λ (pick : ℕ). between 1 pick (table_counters ch.stations).minislots) picks ≡ true
+  pub picked : list_all (λ (pick : ℕ). between 1 pick (table_counters ch.stations).minislots) picks ≡ true
   pub fits : (step_one_of (table_counters ch.stations) (feedback_heard ch)).fits ≡ true
 
 module _ (ch : Channel) (picks : List ℕ) where
@@ -48,11 +48,11 @@ module _ (ch : Channel) (picks : List ℕ) where
       slot_17 h = rw (some, sound, ne_eqb (length picks) (length ch.stations) h)
 
       module _ (same : length picks ≡ length ch.stations) where
-        pub slot_11 : each (λ (pick : ℕ). between 1 pick (table_counters ch.stations).minislots) picks ≡ false → judged_refused 11 ≡ judged_of ch picks
+        pub slot_11 : list_all (λ (pick : ℕ). between 1 pick (table_counters ch.stations).minislots) picks ≡ false → judged_refused 11 ≡ judged_of ch picks
         unfolding judged_of channel_slot_number_of
         slot_11 e = rw (some, sound, eq-eqb (length picks) (length ch.stations) same, e)
 
-        module _ (picked : each (λ (pick : ℕ). between 1 pick (table_counters ch.stations).minislots) picks ≡ true) where
+        module _ (picked : list_all (λ (pick : ℕ). between 1 pick (table_counters ch.stations).minislots) picks ≡ true) where
           pub slot_7 : (step_one_of (table_counters ch.stations) (feedback_heard ch)).fits ≡ false → judged_refused 7 ≡ judged_of ch picks
           unfolding judged_of channel_slot_number_of
           slot_7 e = rw (some, sound, eq-eqb (length picks) (length ch.stations) same, picked, e)

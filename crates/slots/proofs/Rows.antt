@@ -6,7 +6,7 @@ use mathlib.Core.List.{List}
 use Prim.Native.Nat.{ℕ, ◌≤◌}
 use lib.ListN.{length, get_or, take, length-map}
 use borrow.Author.Tests.{le-leb, eq-eqb}
-use Rattle.listlaws.specs.Lists.{each}
+use Rattle.std.specs.List.{list_all}
 use Rattle.minislot.specs.declared.Feedback.{Feedback}
 use Rattle.minislot.specs.declared.Minislot.{Minislot}
 use Rattle.rows.specs.Row.{has_minislots, row_of}
@@ -77,10 +77,10 @@ module _ (c : Counters) (n : ℕ) (wire : List WireRow) (picks : List ℕ) (ok :
   on_17 other ch s = slot_17 ch picks s.some s.sound (λ e. other (e ∙ s.count))
 
   module _ (same : length picks ≡ n) where
-    pub on_11 : each (λ (pick : ℕ). between 1 pick c.minislots) picks ≡ false → JudgedOn c n wire picks (judged_refused 11)
+    pub on_11 : list_all (λ (pick : ℕ). between 1 pick c.minislots) picks ≡ false → JudgedOn c n wire picks (judged_refused 11)
     on_11 e ch s = slot_11 ch picks s.some s.sound (same ∙ sym s.count) (rw s.counters e)
 
-    module _ (picked : each (λ (pick : ℕ). between 1 pick c.minislots) picks ≡ true) where
+    module _ (picked : list_all (λ (pick : ℕ). between 1 pick c.minislots) picks ≡ true) where
       pub on_7 : (step_one_of c row).fits ≡ false → JudgedOn c n wire picks (judged_refused 7)
       on_7 e ch s = slot_7 ch picks s.some s.sound (same ∙ sym s.count) (rw s.counters picked) (rw (s.counters, heard-on ch s) e)
 

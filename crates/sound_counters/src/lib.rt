@@ -4,10 +4,10 @@
 #![tactic(auto)]
 
 ghost use Rattle.std.specs.Prelude.{◌≡◌, take};
-ghost use Rattle.channel_rules.specs.Soundness.{table_counters, counters_shared};
+ghost use Rattle.std.specs.List.{list_all};
+ghost use Rattle.channel_rules.specs.Soundness.{table_counters, same_counters, counters_shared};
 
 use conditions::no_station;
-use drawing::least;
 use rules::{Counters, Station};
 use same_counters::same_counters;
 
@@ -16,27 +16,25 @@ pub fn table_counters(stations: [Station; 64], count: usize) -> Counters
     ensures { result ≡ table_counters (take count stations) }
 {
     if count == 0 {
-        let none = no_station();
-        return none.counters;
+        no_station().counters
+    } else {
+        stations[0].counters
     }
-    let first = stations[0];
-    first.counters
 }
 
-// The clause for the first `count` stations, or for all 64 where there are no more.
-pub fn counters_shared(stations: [Station; 64], count: usize) -> bool
-    ensures { result ≡ counters_shared (take count stations) }
+// Whether every station has these counters.
+fn all_have(shared: &Counters, stations: &[Station]) -> bool
+    ensures { result ≡ list_all (λ s. same_counters shared.now s.counters) stations.now }
 {
-    let n = least(count, 64);
-    let shared = table_counters(stations, n);
-    let mut i: usize = 0;
-    while i < n {
-        let s = stations[i];
-        let c = s.counters;
-        if !same_counters(shared, c) {
-            return false;
-        }
-        i += 1;
+    stations.iter().all(|s| same_counters(shared, &s.counters))
+}
+
+// The clause.
+pub fn counters_shared(stations: &[Station]) -> bool
+    ensures { result ≡ counters_shared stations.now }
+{
+    match stations.first() {
+        Some(first) => all_have(&first.counters, stations),
+        None => true,
     }
-    true
 }

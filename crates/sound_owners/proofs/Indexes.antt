@@ -1,35 +1,28 @@
--- A table has a station of an index just if the index is one of those drawn out of it; so the entries of a calendar test on the indexes as they do
--- on the table. Assumes nothing.
-use mathlib.Core.Path.{◌≡◌, refl, sym}
-use mathlib.Core.Bool.{Bool, true, false, not, ◌&&◌, ◌||◌}
+-- A table has a station of an index just if the index is one of its stations'; so the entries of a calendar test on the stations one by one as the
+-- rule says. Assumes nothing.
+use mathlib.Core.Path.{◌≡◌, refl, sym, ap, ◌∙◌}
+use mathlib.Core.Bool.{Bool, ◌||◌}
 use mathlib.Core.List.{List, [], ◌∷◌, map}
 use Prim.Native.Nat.{ℕ}
 use lib.Dec.{eqb}
 use lib.ListN.{length}
-use borrow.Author.Tests.{eq-eqb, ne_eqb, eqb-true, eqb-false}
-use Rattle.listlaws.specs.Lists.{each}
-use Rattle.places.specs.Places.{differ}
+use borrow.Author.Tests.{eq-eqb}
+use Rattle.std.specs.List.{list_all}
 use Rattle.rules.specs.declared.Station.{Station}
 use Rattle.rules.specs.Plain.{among}
 use Rattle.channel_rules.specs.Soundness.{entry_on, entries_on}
 use Rattle.channel_rules.proofs.Calendared.{on-among}
-use Rattle.sound_stations.specs.Stations.{index_in}
-use Rattle.sound_owners.specs.Owners.{entry_among}
+use Rattle.sound_owners.specs.Owners.{has_index, entry_among}
 
-among-differ : (l : List ℕ) (x : ℕ) → among l x ≡ not (each (differ x) l)
-among-differ [] x = refl
-among-differ (y ∷ l) x = go (among-differ l x) (eqb y x) refl
-  where
-    go : among l x ≡ not (each (differ x) l) → (b : Bool) → eqb y x ≡ b → (b || among l x) ≡ not (not (eqb x y) && each (differ x) l)
-    go ih true e = rw (eq-eqb x y (sym (eqb-true y x e)))
-    go ih false e = rw (ne_eqb x y (λ q. eqb-false y x e (sym q))) ih
+among-has : (l : List Station) (x : ℕ) → among (map (λ (s : Station). s.index) l) x ≡ has_index l x
+among-has [] x = refl
+among-has (s ∷ l) x = ap (λ (b : Bool). eqb s.index x || b) (among-has l x)
 
-each-among : (l : List Station) (entries : List ℕ) → each (entry_on l) entries ≡ each (entry_among (map index_in l)) entries
-unfolding entry_among
+each-among : (l : List Station) (entries : List ℕ) → list_all (entry_on l) entries ≡ list_all (entry_among l) entries
 each-among l [] = refl
-each-among l (x ∷ entries) = rw (on-among l x, among-differ (map index_in l) x, each-among l entries)
+each-among l (x ∷ entries) = rw (on-among l x, among-has l x, each-among l entries)
 
 -- 24 entries
-pub entries_are : (l : List Station) (entries : List ℕ) → length entries ≡ 24 → each (entry_among (map index_in l)) entries ≡ entries_on l entries
+pub entries_are : (l : List Station) (entries : List ℕ) → length entries ≡ 24 → list_all (entry_among l) entries ≡ entries_on l entries
 unfolding entries_on
 entries_are l entries w = rw (eq-eqb _ _ w) (sym (each-among l entries))

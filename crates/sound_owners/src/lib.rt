@@ -1,41 +1,35 @@
-// A clause of a sound table (paper 02, T-02) as code: every owner of a calendar's position is the index of a station of the table. The
-// indexes are drawn out of the table once.
+// A clause of a sound table (paper 02, T-02) as code: every owner of a calendar's position is the index of a station of the table.
 
 #![tactic(auto)]
 
 ghost use Rattle.std.specs.Prelude.{◌≡◌, take};
-ghost use Rattle.listlaws.specs.Lists.{each};
+ghost use Rattle.std.specs.List.{list_all};
 ghost use Rattle.channel_rules.specs.Soundness.{entries_on};
-ghost use Rattle.sound_owners.specs.Owners.{entry_among};
+ghost use Rattle.sound_owners.specs.Owners.{has_index, entry_among};
 
-use calendar_entries::{FREE, POSITIONS};
+use calendar_entries::FREE;
 use drawing::least;
-use places::differs;
 use rules::Station;
-use sound_stations::indexes::indexes_of;
 
-// Whether an entry is free or one of these indexes.
-fn entry_among(x: u16, indexes: &[u16]) -> bool
-    ensures { result ≡ entry_among indexes.now x }
+// Whether one of these stations has an index.
+fn has_index(stations: &[Station], x: u16) -> bool
+    ensures { result ≡ has_index stations.now x }
 {
-    if x == FREE {
-        return true;
-    }
-    !differs(x, indexes)
+    stations.iter().any(|s| s.index == x)
+}
+
+// Whether an entry is free or the index of one of these stations.
+fn entry_among(stations: &[Station], x: u16) -> bool
+    ensures { result ≡ entry_among stations.now x }
+{
+    x == FREE || has_index(stations, x)
 }
 
 // Whether each entry is.
-fn entries_among(entries: [u16; 24], indexes: &[u16]) -> bool
-    ensures { result ≡ each (entry_among indexes.now) entries }
+fn entries_among(stations: &[Station], entries: &[u16]) -> bool
+    ensures { result ≡ list_all (entry_among stations.now) entries.now }
 {
-    let mut i: usize = 0;
-    while i < POSITIONS {
-        if !entry_among(entries[i], indexes) {
-            return false;
-        }
-        i += 1;
-    }
-    true
+    entries.iter().all(|x| entry_among(stations, *x))
 }
 
 // Whether each entry is free or the index of one of the first `count` stations, or of all 64 where there are no more.
@@ -43,6 +37,5 @@ pub fn entries_on(stations: [Station; 64], count: usize, entries: [u16; 24]) -> 
     ensures { result ≡ entries_on (take count stations) entries }
 {
     let n = least(count, 64);
-    let list = indexes_of(stations, n);
-    entries_among(entries, &list[..n])
+    entries_among(&stations[..n], &entries)
 }

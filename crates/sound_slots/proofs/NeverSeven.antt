@@ -16,7 +16,8 @@ use Rattle.rules.specs.declared.Counters.{Counters}
 use Rattle.rules.specs.declared.Station.{Station}
 use Rattle.rules.specs.declared.TableMessage.{TableMessage}
 use Rattle.rules.specs.declared.WireRow.{WireRow}
-use Rattle.listlaws.specs.Lists.{each, each_pair, sum_of, only_if, gather_of}
+use Rattle.std.specs.List.{list_all, flat_map}
+use Rattle.listlaws.specs.Lists.{each_pair, sum_of, only_if}
 use Rattle.rules.specs.Limits.{between, urgent_limit, long_limit, resolution_limit}
 use Rattle.rules.specs.Queueing.{places_of, immediate_of, places_after, passes, step_one_of}
 use Rattle.rules.specs.RowCounts.{short_singles, long_slots, collides}
@@ -53,9 +54,9 @@ use Rattle.sound_slots.proofs.ChannelLaws.{limits, start_made, condition_in, rec
 -- ---- lists joined from at most one entry each
 
 module _ {A B : Type 0} (f : A → List B) (one : (x : A) → length (f x) ≤ 1) where
-  gather-most : (l : List A) → length (gather_of f l) ≤ length l
+  gather-most : (l : List A) → length (flat_map f l) ≤ length l
   gather-most [] = omega arith
-  gather-most (x ∷ l) = omega (arith, length-append (f x) (gather_of f l), one x, gather-most l)
+  gather-most (x ∷ l) = omega (arith, length-append (f x) (flat_map f l), one x, gather-most l)
 
 urgent-one : (k : Condition) → length (urgent_place k) ≤ 1
 urgent-one Free = omega arith
@@ -292,7 +293,7 @@ pub never_7 : (ch : Channel) (picks : List ℕ) → (channel_slot_of ch picks).a
 unfolding channel_slot_of channel_slot_number_of
 never_7 ch picks =
     either (has_stations ch.stations) 14 _ (λ here. either (sound_table ch.stations ch.wire) 18 _
-    (λ sound. either (eqb (length picks) (length ch.stations)) 17 _ (λ _. either (each _ picks) 11 _ (λ _. goes here sound) refl) refl) refl) refl
+    (λ sound. either (eqb (length picks) (length ch.stations)) 17 _ (λ _. either (list_all _ picks) 11 _ (λ _. goes here sound) refl) refl) refl) refl
   where
     either : (b : Bool) (n after : ℕ) → (b ≡ true → Other ch picks after) → eqb n 0 || eqb n 7 ≡ false → Other ch picks (unless b n after)
     either true n after h e = h refl

@@ -18,7 +18,8 @@ use Rattle.minislot.specs.declared.Reading.TheVariants.{Heard}
 use Rattle.minislot.specs.Reading.{reading_of}
 use Rattle.rows.specs.Row.{readings, feedbacks}
 use Rattle.requests.specs.Together.{Request, silent, spoken}
-use Rattle.listlaws.specs.Lists.{each, count_of, only_if}
+use Rattle.std.specs.List.{list_all}
+use Rattle.listlaws.specs.Lists.{count_of, only_if}
 use Rattle.rules.specs.declared.Outcome.{Outcome}
 use Rattle.rules.specs.declared.Station.{Station}
 use Rattle.rules.specs.declared.StationSlot.{StationSlot}
@@ -112,13 +113,13 @@ module _ (test : DataSent → Bool) where
   -- ---- all stations
 
   module _ (o : Outcome) (words counts : List ℕ) (m : ℕ) (opening : o.turn ≡ OpenTurn) (none_left : o.resolution ≡ 0) where
-    senders_are : (l : List Station) (picks : List ℕ) → length picks ≡ length l → each (λ (pick : ℕ). between 1 pick m) picks ≡ true
+    senders_are : (l : List Station) (picks : List ℕ) → length picks ≡ length l → list_all (λ (pick : ℕ). between 1 pick m) picks ≡ true
         → ((k : ℕ) → k < length l → (pick : ℕ) → between 1 pick m ≡ true → slot_of (station_at l k) words counts pick ≡ step_of o (station_at l k) pick)
         → shorts (λ j. requests_in j (slots_of words counts l picks)) m 1 ≡ count_of test (data_sent (slots_of words counts l picks))
     senders_are [] picks e w goes = shorts-none m 1
     senders_are (s ∷ l) [] e w goes = absurd (omega arith)
     senders_are (s ∷ l) (pick ∷ picks) e w goes =
-        let (here, rest) = and_both (between 1 pick m) (each (λ (pick : ℕ). between 1 pick m) picks) w in
+        let (here, rest) = and_both (between 1 pick m) (list_all (λ (pick : ℕ). between 1 pick m) picks) w in
         let (lo, hi) = and_both (leb 1 pick) (leb pick m) here in
         let r = slot_of s words counts pick in
         let opens : Opens s pick r = subst (Opens s pick) (sym (goes zero (omega arith) pick here)) (station_opens o opening none_left s pick (leb-true 1 pick lo)) in

@@ -15,7 +15,8 @@ use Rattle.rules.specs.declared.StationSlot.{StationSlot}
 use Rattle.rules.specs.declared.Condition.{Condition}
 use Rattle.rules.specs.declared.Turn.{Turn}
 use Rattle.rules.specs.declared.Turn.TheVariants.{Owned as OwnedTurn}
-use Rattle.listlaws.specs.Lists.{each, each_pair, only_if, gather_of}
+use Rattle.std.specs.List.{list_all, flat_map}
+use Rattle.listlaws.specs.Lists.{each_pair, only_if}
 use Rattle.rules.specs.Limits.{between}
 use Rattle.rules.specs.Hearing.{words_of, counts_of}
 use Rattle.rules.specs.Turns.{turn_of}
@@ -41,21 +42,21 @@ stream_of x s = only_if (eqb s.index x) (record { index = s.index; segment = 0 }
 
 -- ---- just one station has the owner's index
 
-no_other : (x : ℕ) (s : Station) (l : List Station) → s.index ≡ x → each (other_index s) l ≡ true → gather_of (stream_of x) l ≡ []
+no_other : (x : ℕ) (s : Station) (l : List Station) → s.index ≡ x → list_all (other_index s) l ≡ true → flat_map (stream_of x) l ≡ []
 no_other x s [] q e = refl
 no_other x s (y ∷ l) q e =
-    let (here, rest) = and_both (other_index s y) (each (other_index s) l) e in
+    let (here, rest) = and_both (other_index s y) (list_all (other_index s) l) e in
     rw (ne_eqb y.index x (λ w. not_eq s.index y.index here (q ∙ sym w))) (no_other x s l q rest)
 
 one-stream : (x : ℕ) (l : List Station) → each_pair other_index l ≡ true → (k : ℕ) → k < length l → (station_at l k).index ≡ x
-    → gather_of (stream_of x) l ≡ record { index = x; segment = 0 } ∷ []
+    → flat_map (stream_of x) l ≡ record { index = x; segment = 0 } ∷ []
 one-stream x [] e k h q = absurd (omega arith)
 one-stream x (s ∷ l) e k h q =
-    let (first, rest) = and_both (each (other_index s) l) (each_pair other_index l) e in
+    let (first, rest) = and_both (list_all (other_index s) l) (each_pair other_index l) e in
     go first (one-stream x l rest) (eqb s.index x) refl k h q
   where
-    go : each (other_index s) l ≡ true → ((k : ℕ) → k < length l → (station_at l k).index ≡ x → gather_of (stream_of x) l ≡ record { index = x; segment = 0 } ∷ []) → (b : Bool) → eqb s.index x ≡ b
-        → (k : ℕ) → k < suc (length l) → (station_at (s ∷ l) k).index ≡ x → only_if b (record { index = s.index; segment = 0 } ∷ []) ++ gather_of (stream_of x) l ≡ record { index = x; segment = 0 } ∷ []
+    go : list_all (other_index s) l ≡ true → ((k : ℕ) → k < length l → (station_at l k).index ≡ x → flat_map (stream_of x) l ≡ record { index = x; segment = 0 } ∷ []) → (b : Bool) → eqb s.index x ≡ b
+        → (k : ℕ) → k < suc (length l) → (station_at (s ∷ l) k).index ≡ x → only_if b (record { index = s.index; segment = 0 } ∷ []) ++ flat_map (stream_of x) l ≡ record { index = x; segment = 0 } ∷ []
     go first ih true w k h q = let z : s.index ≡ x = eqb-true s.index x w in rw (no_other x s l z first, z)
     go first ih false w zero h q = absurd (eqb-false s.index x w q)
     go first ih false w (suc k) h q = ih k (omega arith) q
@@ -86,13 +87,13 @@ module _ (o : Outcome) (x : ℕ) (owned : o.turn ≡ OwnedTurn x) where
 
   -- all stations' slots are such steps
   module _ (words counts : List ℕ) (m : ℕ) where
-    sent-streams : (l : List Station) (picks : List ℕ) → length picks ≡ length l → each (λ (pick : ℕ). between 1 pick m) picks ≡ true
+    sent-streams : (l : List Station) (picks : List ℕ) → length picks ≡ length l → list_all (λ (pick : ℕ). between 1 pick m) picks ≡ true
         → ((k : ℕ) → k < length l → (pick : ℕ) → between 1 pick m ≡ true → slot_of (station_at l k) words counts pick ≡ step_of o (station_at l k) pick)
-        → data_sent (slots_of words counts l picks) ≡ gather_of (stream_of x) l
+        → data_sent (slots_of words counts l picks) ≡ flat_map (stream_of x) l
     sent-streams [] picks e w goes = refl
     sent-streams (s ∷ l) [] e w goes = absurd (omega arith)
     sent-streams (s ∷ l) (pick ∷ picks) e w goes =
-        let (here, rest) = and_both (between 1 pick m) (each (λ (pick : ℕ). between 1 pick m) picks) w in
+        let (here, rest) = and_both (between 1 pick m) (list_all (λ (pick : ℕ). between 1 pick m) picks) w in
         ap (λ (r : StationSlot). data_in r r.answer ++ data_sent (slots_of words counts l picks)) (goes zero (omega arith) pick here)
         ∙ rw (step_data s pick, sent-streams l picks (omega arith) rest (λ k h. goes (suc k) (omega arith)))
 

@@ -7,7 +7,7 @@ use native.Mathlib.Omega.{arith}
 use lib.Dec.{eqb, leb}
 use lib.ListN.{length}
 use borrow.Author.Tests.{eqb-true, leb-true}
-use Rattle.listlaws.specs.Lists.{each}
+use Rattle.std.specs.List.{list_all}
 use Rattle.rules.specs.declared.Station.{Station}
 use Rattle.rules.specs.declared.Turn.{Turn}
 use Rattle.rules.specs.declared.Answer.TheVariants.{Went}
@@ -26,7 +26,7 @@ pub record Passed (ch : Channel) (picks : List ℕ) : Type 0 where
   pub stations : has_stations ch.stations ≡ true
   pub sound : sound_table ch.stations ch.wire ≡ true
   pub picked : length picks ≡ length ch.stations
-  pub within : each (λ (pick : ℕ). between 1 pick (table_counters ch.stations).minislots) picks ≡ true
+  pub within : list_all (λ (pick : ℕ). between 1 pick (table_counters ch.stations).minislots) picks ≡ true
   pub fits : (step_one_of (table_counters ch.stations) (feedback_heard ch)).fits ≡ true
 
 -- by its number, and by its answer
@@ -36,7 +36,7 @@ number_passed ch picks none =
     let (e14, after14) = test_passed (has_stations ch.stations) 14 _ refl none in
     let (e18, after18) = test_passed (sound_table ch.stations ch.wire) 18 _ refl after14 in
     let (e17, after17) = test_passed (eqb (length picks) (length ch.stations)) 17 _ refl after18 in
-    let (e11, after11) = test_passed (each (λ (pick : ℕ). between 1 pick (table_counters ch.stations).minislots) picks) 11 _ refl after17 in
+    let (e11, after11) = test_passed (list_all (λ (pick : ℕ). between 1 pick (table_counters ch.stations).minislots) picks) 11 _ refl after17 in
     let (e7, after7) = test_passed (step_one_of (table_counters ch.stations) (feedback_heard ch)).fits 7 _ refl after11 in
     record { number = none; stations = e14; sound = e18; picked = eqb-true (length picks) (length ch.stations) e17; within = e11; fits = e7 }
 

@@ -25,7 +25,8 @@ use Rattle.rules.specs.declared.SlotAnswer.{SlotAnswer}
 use Rattle.rules.specs.declared.SlotAnswer.TheVariants.{Went as WentSlot, Refused as RefusedSlot}
 use Rattle.rules.specs.declared.Places.{Places}
 use Rattle.rules.specs.declared.WireRow.{WireRow}
-use Rattle.listlaws.specs.Lists.{each, each_pair, only_if}
+use Rattle.std.specs.List.{list_all}
+use Rattle.listlaws.specs.Lists.{each_pair, only_if}
 use Rattle.rules.specs.Limits.{between, within_limits}
 use Rattle.rules.specs.Hearing.{words_of, counts_of}
 use Rattle.rules.specs.Queueing.{places_before, places_after, immediate_of, places_of}
@@ -208,11 +209,11 @@ module _ (words counts : List ℕ) (j : ℕ) (lo : 1 ≤ j) where
           at false e = inl refl
       go (RefusedSlot n) h = inl refl
 
-  apart_from : (i : ℕ) (l : List Station) (picks : List ℕ) → each (λ (b : Station). not (eqb i b.index)) l ≡ true → Apart i (requests_in j (slots_of words counts l picks))
+  apart_from : (i : ℕ) (l : List Station) (picks : List ℕ) → list_all (λ (b : Station). not (eqb i b.index)) l ≡ true → Apart i (requests_in j (slots_of words counts l picks))
   apart_from i [] picks e = tt
   apart_from i (s ∷ l) [] e = tt
   apart_from i (s ∷ l) (x ∷ picks) e =
-      let (a, b) = and_both (not (eqb i s.index)) (each (λ (b : Station). not (eqb i b.index)) l) e in
+      let (a, b) = and_both (not (eqb i s.index)) (list_all (λ (b : Station). not (eqb i b.index)) l) e in
       add (request_in j (slot_of s words counts x) (slot_of s words counts x).answer) (one s (slot_of s words counts x) (slot_fair s words counts x)) (not_eq i s.index a) (apart_from i l picks b)
     where
       add : (y : List Request) → (y ≡ []) ⊎ ((v : ℕ) × (1 ≤ v) × (y ≡ request_as s.index v ∷ [])) → i ≢ s.index → Apart i (requests_in j (slots_of words counts l picks))
@@ -220,12 +221,12 @@ module _ (words counts : List ℕ) (j : ℕ) (lo : 1 ≤ j) where
       add y (inl q) ne ih = rw q ih
       add y (inr (v, lo, q)) ne ih = rw q ((λ w. ne (sym w)), ih)
 
-  proper : (l : List Station) (picks : List ℕ) → each_pair other_index l ≡ true → each station_within l ≡ true → Proper (requests_in j (slots_of words counts l picks))
+  proper : (l : List Station) (picks : List ℕ) → each_pair other_index l ≡ true → list_all station_within l ≡ true → Proper (requests_in j (slots_of words counts l picks))
   proper [] picks e w = tt
   proper (s ∷ l) [] e w = tt
   proper (s ∷ l) (x ∷ picks) e w =
-      let (a, b) = and_both (each (other_index s) l) (each_pair other_index l) e in
-      let (c, d) = and_both (station_within s) (each station_within l) w in
+      let (a, b) = and_both (list_all (other_index s) l) (each_pair other_index l) e in
+      let (c, d) = and_both (station_within s) (list_all station_within l) w in
       add (request_in j (slot_of s words counts x) (slot_of s words counts x).answer) (one s (slot_of s words counts x) (slot_fair s words counts x)) (let z = (station_in s c).index in omega arith) (apart_from s.index l picks a) (proper l picks b d)
     where
       add : (y : List Request) → (y ≡ []) ⊎ ((v : ℕ) × (1 ≤ v) × (y ≡ request_as s.index v ∷ [])) → s.index < 924 → Apart s.index (requests_in j (slots_of words counts l picks))
@@ -244,7 +245,7 @@ new-at results zero i k h = absurd (omega arith)
 new-at results (suc n) i zero h = ap (λ (x : ℕ). together (map carries (requests_in x results))) (omega arith)
 new-at results (suc n) i (suc k) h = new-at results n (suc i) k (omega arith) ∙ ap (λ (x : ℕ). together (map carries (requests_in x results))) (omega arith)
 
-account : (stations : List Station) (words counts picks : List ℕ) → each_pair other_index stations ≡ true → each station_within stations ≡ true
+account : (stations : List Station) (words counts picks : List ℕ) → each_pair other_index stations ≡ true → list_all station_within stations ≡ true
     → RowAccount (slots_of words counts stations picks) (new_row (slots_of words counts stations picks) 8 1)
 account stations words counts picks e w =
     record {

@@ -1,13 +1,10 @@
 -- The clauses on stations together, and what of a record's limits is its own once counters are shared. Assumes nothing.
-use Rattle.std.specs.Prelude.{Bool, ◌&&◌, List, ℕ}
+use Rattle.std.specs.Prelude.{Bool, ◌&&◌, List}
 use Rattle.rules.specs.declared.Counters.{Counters}
 use Rattle.rules.specs.declared.Station.{Station}
 use Rattle.rules.specs.StationCalls.{is_index}
 use Rattle.rules.specs.StationLimits.{messages_within}
 use Rattle.channel_rules.specs.Soundness.{records_within, counters_shared, indexes_distinct}
-
-abbrev pub index_in : Station → ℕ
-index_in s = s.index
 
 -- index and message records, under counters that are within their limits
 unfoldable pub beside_within : Counters → Station → Bool

@@ -1,1 +1,2 @@
 mod Carrying
+mod Pairs

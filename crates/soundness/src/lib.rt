@@ -9,9 +9,9 @@ ghost use Rattle.std.specs.Prelude.{◌≡◌, take};
 ghost use Rattle.channel_rules.specs.Soundness.{sound_table};
 ghost use Rattle.soundness.specs.Clauses.{messages_sound};
 
-use drawing::least;
+use drawing::{Messages, least};
 use messages::messages;
-use rules::{Counters, Station, TableMessage, WireRow};
+use rules::{Counters, Station, WireRow};
 use sound_counters::table_counters;
 use sound_owners::entries_on;
 use sound_queues::long::long_sound;
@@ -21,40 +21,29 @@ use sound_stations::stations_sound;
 use sound_wire::wire_sound;
 
 // The clauses on messages, for queues as long as the counters say.
-fn messages_sound(
-    messages: [TableMessage; 128],
-    count: usize,
-    counters: Counters,
-    wire: [WireRow; 8],
-) -> bool
-    ensures { result ≡ messages_sound counters (take count messages) wire }
+#[tactic(auto, unfolding(crate::specs::Clauses::messages_sound))]
+fn messages_sound(messages: &Messages, counters: &Counters, wire: &[WireRow; 8]) -> bool
+    ensures { result ≡ messages_sound counters.now messages.now.items wire.now }
 {
-    if !urgent_sound(messages, count, counters.urgent) {
-        return false;
-    }
-    if !long_sound(messages, count, counters.long) {
-        return false;
-    }
-    let queues = counters.resolution;
-    if !resolution_sound(messages, count, queues) {
-        return false;
-    }
-    wire_sound(messages, count, wire)
+    urgent_sound(messages, counters.urgent)
+        && long_sound(messages, counters.long)
+        && resolution_sound(messages, &counters.resolution)
+        && wire_sound(messages, wire)
 }
 
-// Whether a table of the first `count` stations, or of all 64 where there are no more, and a wire are sound.
+// Whether a table of the first `count` stations, or of all 64 where there are no more, and a wire are sound. One test after the other, since
+// what the next one goes over is drawn out between them.
 pub fn sound(stations: [Station; 64], count: usize, wire: [WireRow; 8]) -> bool
     ensures { result ≡ sound_table (take count stations) wire }
 {
     let n = least(count, 64);
-    if !stations_sound(stations, n) {
+    if !stations_sound(&stations[..n]) {
         return false;
     }
-    let list = messages(stations, n);
+    let list = messages(&stations[..n]);
     let counters = table_counters(stations, n);
-    if !messages_sound(list, 2 * n, counters, wire) {
+    if !messages_sound(&list, &counters, &wire) {
         return false;
     }
-    let entries = counters.calendar;
-    entries_on(stations, n, entries)
+    entries_on(stations, n, counters.calendar)
 }

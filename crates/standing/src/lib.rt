@@ -44,13 +44,7 @@ pub fn begin_run(at: usize) -> Run
 fn place_behind(place: usize, more: usize, size: usize) -> usize
     ensures { result ≡ min (place + more) size }
 {
-    if size <= place {
-        return size;
-    }
-    if size - place <= more {
-        return size;
-    }
-    place + more
+    place.saturating_add(more).min(size)
 }
 
 // The most that a read asks for, so that the bytes of a record that has begun have room before it.
@@ -67,17 +61,16 @@ pub fn read_end(kept: usize, input: &[u8]) -> usize
 pub fn after_read(s: Run, input: &[u8], more: usize) -> Run
     ensures { result ≡ read_of s input.now more }
 {
-    let mut after = s;
-    after.filled = place_behind(s.filled, more, input.len());
-    after.ended = more == 0;
-    after
+    Run {
+        filled: place_behind(s.filled, more, input.len()),
+        ended: more == 0,
+        ..s
+    }
 }
 
 // After the output was written.
 pub fn after_write(s: Run) -> Run
     ensures { result ≡ written_of s }
 {
-    let mut after = s;
-    after.at = 0;
-    after
+    Run { at: 0, ..s }
 }

@@ -25,15 +25,14 @@ pub struct Beginning {
 fn start_station(m: u8, n: u8, index: u16) -> Station
     ensures { result ≡ start_station m n index }
 {
+    let free = MessageRecord {
+        condition: Condition::Free,
+    };
     Station {
         counters: counters::start(m, n),
         index,
-        short: MessageRecord {
-            condition: Condition::Free,
-        },
-        long: MessageRecord {
-            condition: Condition::Free,
-        },
+        short: free,
+        long: free,
     }
 }
 
@@ -42,14 +41,11 @@ fn new_table(m: u8, n: u8, indexes: &[u16]) -> Loaded
     requires { length indexes.now ≤ 64 }
     ensures { result ≡ load_of (new_stations m n indexes.now) }
 {
-    let count = indexes.len();
     let mut stations = blanks();
-    let mut i: usize = 0;
-    while i < count {
-        stations[i] = start_station(m, n, indexes[i]);
-        i += 1;
+    for (i, index) in indexes.iter().enumerate() {
+        stations[i] = start_station(m, n, *index);
     }
-    hold(stations, count)
+    hold(stations, indexes.len())
 }
 
 // A wire on which nothing was sent.
@@ -61,6 +57,7 @@ pub fn blank_wire() -> [WireRow; 8]
     }; 8]
 }
 
+#[tactic(auto, unfolding(table::specs::Loading::blank_of))]
 fn refuse_start(wire: [WireRow; 8], number: u8) -> Beginning
     ensures { result ≡ no_beginning wire number }
 {
@@ -74,6 +71,7 @@ fn refuse_start(wire: [WireRow; 8], number: u8) -> Beginning
 }
 
 // A start on a table of `count` records.
+#[tactic(auto, unfolding(crate::specs::Starting::beginning_of))]
 pub fn begin(count: usize, wire: [WireRow; 8], m: u8, n: u8, indexes: &[u16]) -> Beginning
     ensures { result ≡ beginning_of count wire m n indexes.now }
 {

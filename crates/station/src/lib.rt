@@ -9,7 +9,7 @@ ghost use Rattle.rules.specs.Answered.{station_start_told_of};
 
 use conditions::{is_index, no_station};
 use counters::in_ranges;
-use rules::{Condition, MessageRecord, StartAnswer, Station, StationStarted};
+use rules::{StartAnswer, Station, StationStarted};
 
 fn refused_start(number: u8) -> StationStarted
     ensures { result ≡ refused_start number }
@@ -25,23 +25,18 @@ pub fn start(m: u8, n: u8, index: u16) -> StationStarted
     ensures left { result ≡ station_start_of m n index }
     ensures told { start_told result.answer ≡ station_start_told_of m n index }
 {
-    if in_ranges(m, n) {
-        if is_index(index) {
-            return StationStarted {
-                answer: StartAnswer::Ready,
-                station: Station {
-                    counters: counters::start(m, n),
-                    index,
-                    short: MessageRecord {
-                        condition: Condition::Free,
-                    },
-                    long: MessageRecord {
-                        condition: Condition::Free,
-                    },
-                },
-            };
-        }
+    if !in_ranges(m, n) {
+        return refused_start(5);
+    }
+    if !is_index(index) {
         return refused_start(8);
     }
-    refused_start(5)
+    StationStarted {
+        answer: StartAnswer::Ready,
+        station: Station {
+            counters: counters::start(m, n),
+            index,
+            ..no_station()
+        },
+    }
 }

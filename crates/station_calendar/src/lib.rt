@@ -27,15 +27,15 @@ pub fn set_calendar(s: Station, entries: [u16; 24]) -> StationSet
     ensures left { result ≡ station_calendar_of s entries }
     ensures told { calendar_told result.answer ≡ station_calendar_told_of s entries }
 {
-    if within(s) {
-        let number = entries_number(entries);
-        if number != 0 {
-            return refused_calendar(s, number);
-        }
-        return StationSet {
-            answer: CalendarAnswer::Set,
-            station: calendar_on(s, entries),
-        };
+    if !within(s) {
+        return refused_calendar(s, 18);
     }
-    refused_calendar(s, 18)
+    let number = entries_number(entries);
+    if number != 0 {
+        return refused_calendar(s, number);
+    }
+    StationSet {
+        answer: CalendarAnswer::Set,
+        station: calendar_on(s, entries),
+    }
 }

@@ -18,16 +18,14 @@
 
 #![tactic(auto)]
 
-use rules::{Counters, ListenAnswer, SlotAnswer, Station, WriteAnswer};
-use runs_cases::{
-    Group, count, counts, group_at, line_end, number, number8, number16, which, words,
-};
+use rules::{Counters, ListenAnswer, SlotAnswer, Station, WriteAnswer, Writing};
+use runs_cases::{Group, split_group, whole, word};
 use runs_files::read_full;
 use runs_records::{
-    counters_at, counters_numbers, counters_of, entries_of, owned_text, record_line, refused_line,
-    set_line, start_line, station_of, total_line, went_line, writing,
+    counters_at, counters_fields, counters_of, entries_of, owned_text, record_line, refused_line,
+    set_line, start_line, station_of, total_line, went_text, writing,
 };
-use runs_text::{form, text};
+use runs_text::text;
 use std::io;
 
 // The record that the next call is made on, and the one that was kept; a listener's record, and the recording that both hear.
@@ -39,21 +37,42 @@ struct Records {
     recording: Group,
 }
 
+// A call of the station. The last two are the listener's beside it too.
+#[derive(Clone, Copy)]
+enum Call {
+    Start,
+    Write(Writing),
+    Slot,
+    SlotAt,
+    Calendar,
+    Beside,
+    CalendarBeside,
+}
+
+fn call_of(line: &[u8], head: &Group) -> Option<Call> {
+    match word(line) {
+        b"start" => Some(Call::Start),
+        b"slot" => Some(Call::Slot),
+        b"slot_at" => Some(Call::SlotAt),
+        b"calendar" => Some(Call::Calendar),
+        b"beside" => Some(Call::Beside),
+        b"calendar_beside" => Some(Call::CalendarBeside),
+        other => writing(other, head.number(1)).map(Call::Write),
+    }
+}
+
 // ---- the calls
 
-fn start(rt: &impl Print, head: Group) -> io::Result<Station> {
-    let r = station::start(number8(head, 1), number8(head, 2), number16(head, 3));
-    let answer = r.answer;
-    start_line(rt, answer)?;
+fn start(rt: &impl Print, head: &Group) -> io::Result<Station> {
+    let r = station::start(head.number8(1), head.number8(2), head.number16(3));
+    start_line(rt, r.answer)?;
     Ok(r.station)
 }
 
-// A call that writes a message record, by its number: 1 an offer, 2 a hold, 3 a commit, 4 a withdrawal.
-fn write(rt: &impl Print, s: Station, call: u64, head: Group) -> io::Result<Station> {
-    let r = station_write::write(s, writing(call, number(head, 1)));
-    let answer = r.answer;
-    match answer {
-        WriteAnswer::Total(total) => total_line(rt, call, total)?,
+fn write(rt: &impl Print, s: Station, w: Writing) -> io::Result<Station> {
+    let r = station_write::write(s, w);
+    match r.answer {
+        WriteAnswer::Total(total) => total_line(rt, w, total)?,
         WriteAnswer::Refused(number) => refused_line(rt, number)?,
     }
     Ok(r.station)
@@ -66,254 +85,219 @@ fn slot_line(rt: &impl Print, answer: SlotAnswer) -> io::Result<()> {
             minislot,
             segment,
         } => {
-            let numbers = [minislot as u64, segment as u64];
-            went_line(rt, turn, &numbers)
+            went_text(rt, turn)?;
+            println!(rt; ",{minislot},{segment}")
         }
         SlotAnswer::Refused(number) => refused_line(rt, number),
     }
 }
 
 // The words and the counts of a group stand in turn, and its last number is the pick.
-fn slot(rt: &impl Print, s: Station, head: Group) -> io::Result<Station> {
-    let words = words(head, 1, 2);
-    let counts = counts(head, 2, 2);
-    let many = count(head);
+fn slot(rt: &impl Print, s: Station, head: &Group) -> io::Result<Station> {
+    let words = head.words(1, 2);
+    let counts = head.counts(2, 2);
+    let many = head.count();
     let end = many / 2;
-    let r = station_slot::slot(s, &words[0..end], &counts[0..end], number8(head, many));
-    let answer = r.answer;
-    slot_line(rt, answer)?;
+    let r = station_slot::slot(s, &words[..end], &counts[..end], head.number8(many));
+    slot_line(rt, r.answer)?;
     Ok(r.station)
 }
 
-// A row of the recording, whose words and counts stand in turn.
-fn slot_at(
-    rt: &impl Print,
-    s: Station,
-    recording: Group,
-    place: usize,
-    pick: u8,
-) -> io::Result<Station> {
-    let words = words(recording, 1, 2);
-    let counts = counts(recording, 2, 2);
-    let end = count(recording) / 2;
-    let r = recorded_slot::slot_at(s, &words[0..end], &counts[0..end], place, pick);
-    let answer = r.answer;
-    slot_line(rt, answer)?;
+// A row of the recording, whose words and counts stand in turn: its place and the pick.
+fn slot_at(rt: &impl Print, s: Station, recording: &Group, head: &Group) -> io::Result<Station> {
+    let words = recording.words(1, 2);
+    let counts = recording.counts(2, 2);
+    let end = recording.count() / 2;
+    let place = head.number(1) as usize;
+    let r = recorded_slot::slot_at(s, &words[..end], &counts[..end], place, head.number8(2));
+    slot_line(rt, r.answer)?;
     Ok(r.station)
 }
 
-fn owned_line(rt: &impl Print, c: Counters) -> io::Result<()> {
+fn owned_line(rt: &impl Print, c: &Counters) -> io::Result<()> {
     owned_text(rt, c)?;
     text(rt, b"\n")
 }
 
-fn calendar(rt: &impl Print, s: Station, head: Group) -> io::Result<Station> {
+fn calendar(rt: &impl Print, s: Station, head: &Group) -> io::Result<Station> {
     let r = station_calendar::set_calendar(s, entries_of(head));
-    let answer = r.answer;
-    set_line(rt, answer)?;
+    set_line(rt, r.answer)?;
     Ok(r.station)
 }
 
-// The record after a call: 1 a start, 2 an offer, 3 a slot, 4 a calendar, 5 a hold, 6 a commit, 7 a withdrawal, 8 or 9 a slot of the
-// recording, 10 a calendar.
-fn called(
-    rt: &impl Print,
-    s: Station,
-    recording: Group,
-    call: u64,
-    head: Group,
-) -> io::Result<Station> {
-    let first = number(head, 1) as usize;
+// The record after a call.
+fn called(rt: &impl Print, r: &Records, call: Call, head: &Group) -> io::Result<Station> {
     match call {
-        1 => start(rt, head),
-        2 => write(rt, s, 1, head),
-        3 => slot(rt, s, head),
-        4 => calendar(rt, s, head),
-        5 => write(rt, s, 2, head),
-        6 => write(rt, s, 3, head),
-        7 => write(rt, s, 4, head),
-        10 => calendar(rt, s, head),
-        _ => slot_at(rt, s, recording, first, number8(head, 2)),
+        Call::Start => start(rt, head),
+        Call::Write(w) => write(rt, r.last, w),
+        Call::Slot => slot(rt, r.last, head),
+        Call::SlotAt | Call::Beside => slot_at(rt, r.last, &r.recording, head),
+        Call::Calendar | Call::CalendarBeside => calendar(rt, r.last, head),
     }
-}
-
-// The record after a call, as it is written.
-fn written(rt: &impl Print, s: Station, call: u64) -> io::Result<()> {
-    let c = s.counters;
-    record_line(rt, s)?;
-    if call == 4 {
-        owned_line(rt, c)?;
-    }
-    if call == 10 {
-        owned_line(rt, c)?;
-    }
-    Ok(())
 }
 
 // ---- the listener
 
-fn counters_line(rt: &impl Print, c: Counters) -> io::Result<()> {
-    let numbers = counters_numbers(c);
-    form(
-        rt,
-        b"counters,#,#,#,#,#,#,#,#,#,#,#,#,#,?,?,?,?,?,?,?,?\n",
-        &numbers[0..21],
-    )
+// The listener's counters, as they are written.
+fn counters_line(rt: &impl Print, c: &Counters) -> io::Result<()> {
+    text(rt, b"counters")?;
+    counters_fields(rt, c)?;
+    text(rt, b"\n")
 }
 
-fn listener_start(rt: &impl Print, head: Group) -> io::Result<Counters> {
-    let r = listener::start(number8(head, 1), number8(head, 2));
-    let answer = r.answer;
-    start_line(rt, answer)?;
+fn listener_start(rt: &impl Print, head: &Group) -> io::Result<Counters> {
+    let r = listener::start(head.number8(1), head.number8(2));
+    start_line(rt, r.answer)?;
     Ok(r.counters)
 }
 
 // The same row of the recording.
-fn listen_at(rt: &impl Print, c: Counters, recording: Group, place: usize) -> io::Result<Counters> {
-    let words = words(recording, 1, 2);
-    let counts = counts(recording, 2, 2);
-    let end = count(recording) / 2;
-    let r = listening::listen_at(c, &words[0..end], &counts[0..end], place);
-    let answer = r.answer;
-    match answer {
-        ListenAnswer::Went(turn) => went_line(rt, turn, &[])?,
+fn listen_at(
+    rt: &impl Print,
+    c: Counters,
+    recording: &Group,
+    place: usize,
+) -> io::Result<Counters> {
+    let words = recording.words(1, 2);
+    let counts = recording.counts(2, 2);
+    let end = recording.count() / 2;
+    let r = listening::listen_at(c, &words[..end], &counts[..end], place);
+    match r.answer {
+        ListenAnswer::Went(turn) => {
+            went_text(rt, turn)?;
+            text(rt, b"\n")?;
+        }
         ListenAnswer::Refused(number) => refused_line(rt, number)?,
     }
     Ok(r.counters)
 }
 
-fn listener_calendar(rt: &impl Print, c: Counters, head: Group) -> io::Result<Counters> {
+fn listener_calendar(rt: &impl Print, c: Counters, head: &Group) -> io::Result<Counters> {
     let r = listener::set_calendar(c, entries_of(head));
-    let answer = r.answer;
-    set_line(rt, answer)?;
+    set_line(rt, r.answer)?;
     Ok(r.counters)
 }
 
-// The listener's record after its part of a line, and what is written of it: 9 a slot, 10 a calendar, 11 its start.
-fn heard(
-    rt: &impl Print,
-    c: Counters,
-    recording: Group,
-    kind: u64,
-    head: Group,
-) -> io::Result<Counters> {
-    let after = match kind {
-        9 => listen_at(rt, c, recording, number(head, 1) as usize)?,
-        10 => listener_calendar(rt, c, head)?,
-        _ => listener_start(rt, head)?,
-    };
-    counters_line(rt, after)?;
-    if kind == 10 {
-        owned_line(rt, after)?;
+// The listener's record after its part of a call, and what is written of it.
+fn heard(rt: &impl Print, r: &Records, call: Call, head: &Group) -> io::Result<Counters> {
+    match call {
+        Call::Beside => {
+            let after = listen_at(rt, r.beside, &r.recording, head.number(1) as usize)?;
+            counters_line(rt, &after)?;
+            Ok(after)
+        }
+        Call::CalendarBeside => {
+            let after = listener_calendar(rt, r.beside, head)?;
+            counters_line(rt, &after)?;
+            owned_line(rt, &after)?;
+            Ok(after)
+        }
+        _ => Ok(r.beside),
     }
-    Ok(after)
 }
 
 // ---- the cases
 
-// The record of a line `given`.
-fn given(line: &[u8], head: Group) -> Station {
-    station_of(counters_of(head), number16(head, 22), line, head.next)
+fn call_line(rt: &impl Print, line: &[u8]) -> io::Result<()> {
+    text(rt, line)?;
+    text(rt, b"\n")
 }
 
-// The record with the position and the calendar of a line `position`.
-fn station_at(rt: &impl Print, s: Station, line: &[u8], head: Group) -> io::Result<Station> {
-    let mut s = s;
-    let c = s.counters;
-    let after = counters_at(c, line, head);
-    owned_line(rt, after)?;
-    s.counters = after;
+// A call: its line, the answer and the record after.
+fn make(rt: &impl Print, r: Records, line: &[u8], call: Call, head: &Group) -> io::Result<Records> {
+    call_line(rt, line)?;
+    let last = called(rt, &r, call, head)?;
+    record_line(rt, &last)?;
+    if matches!(call, Call::Calendar | Call::CalendarBeside) {
+        owned_line(rt, &last.counters)?;
+    }
+    let beside = heard(rt, &r, call, head)?;
+    Ok(Records { last, beside, ..r })
+}
+
+// The start of a listener: its line, the answer and the counters after.
+fn start_beside(rt: &impl Print, line: &[u8], head: &Group) -> io::Result<Counters> {
+    call_line(rt, line)?;
+    let beside = listener_start(rt, head)?;
+    counters_line(rt, &beside)?;
+    Ok(beside)
+}
+
+// The record of a line `given`.
+fn given(head: &Group, rest: &[u8]) -> Station {
+    station_of(counters_of(head), head.number16(22), rest)
+}
+
+fn given_line(rt: &impl Print, head: &Group, rest: &[u8]) -> io::Result<Station> {
+    let s = given(head, rest);
+    text(rt, b"given\n")?;
+    record_line(rt, &s)?;
     Ok(s)
 }
 
-// A call: its line, the answer and the record after; 9 and 10 are the listener's too, and 11 starts one.
-fn call(rt: &impl Print, r: Records, line: &[u8], kind: u64, head: Group) -> io::Result<Records> {
-    let mut r = r;
-    let last = r.last;
-    let beside = r.beside;
-    let recording = r.recording;
-    text(rt, line)?;
-    text(rt, b"\n")?;
-    if kind < 11 {
-        let s = called(rt, last, recording, kind, head)?;
-        written(rt, s, kind)?;
-        r.last = s;
-    }
-    if kind < 9 {
-        return Ok(r);
-    }
-    r.beside = heard(rt, beside, recording, kind, head)?;
-    Ok(r)
+// The record with the position and the calendar of a line `position`.
+fn station_at(rt: &impl Print, s: Station, head: &Group, rest: &[u8]) -> io::Result<Station> {
+    let counters = counters_at(s.counters, head, rest);
+    owned_line(rt, &counters)?;
+    Ok(Station { counters, ..s })
 }
 
-// A line that is no call: 1 keeps the record, 2 comes back to the one that was kept, 3 gives one, 4 has a recording, 5 gives the record a
-// position and a calendar, 6 writes them.
-fn set(rt: &impl Print, r: Records, line: &[u8], kind: u64, head: Group) -> io::Result<Records> {
-    let mut r = r;
-    let last = r.last;
-    let kept = r.kept;
-    match kind {
-        1 => r.kept = last,
-        2 => r.last = kept,
-        3 => {
-            let s = given(line, head);
-            text(rt, b"given\n")?;
-            record_line(rt, s)?;
-            r.last = s;
+// A line that is no call of the station; a note leaves all as it was.
+fn set(rt: &impl Print, r: Records, line: &[u8], head: &Group, rest: &[u8]) -> io::Result<Records> {
+    match word(line) {
+        b"listener" => Ok(Records {
+            beside: start_beside(rt, line, head)?,
+            ..r
+        }),
+        b"keep" => Ok(Records { kept: r.last, ..r }),
+        b"again" => Ok(Records { last: r.kept, ..r }),
+        b"given" => Ok(Records {
+            last: given_line(rt, head, rest)?,
+            ..r
+        }),
+        b"recording" => Ok(Records {
+            recording: *head,
+            ..r
+        }),
+        b"position" => Ok(Records {
+            last: station_at(rt, r.last, head, rest)?,
+            ..r
+        }),
+        b"show" => {
+            owned_line(rt, &r.last.counters)?;
+            Ok(r)
         }
-        4 => r.recording = head,
-        5 => r.last = station_at(rt, last, line, head)?,
-        _ => {
-            let c = last.counters;
-            owned_line(rt, c)?;
-        }
+        _ => Ok(r),
     }
-    Ok(r)
 }
 
-// One line; a note leaves all as it was.
+// One line.
 fn case(rt: &impl Print, r: Records, line: &[u8]) -> io::Result<Records> {
-    let head = group_at(line, 0);
-    let kind = which(
-        line,
-        0,
-        b"start offer slot calendar hold commit withdraw slot_at beside calendar_beside listener ",
-    );
-    if kind != 0 {
-        return call(rt, r, line, kind, head);
+    let (head, rest) = split_group(line);
+    match call_of(line, &head) {
+        Some(call) => make(rt, r, line, call, &head),
+        None => set(rt, r, line, &head, rest),
     }
-    let other = which(line, 0, b"keep again given recording position show ");
-    if other == 0 {
-        return Ok(r);
-    }
-    set(rt, r, line, other, head)
-}
-
-fn cases(rt: &impl Print, bytes: &[u8], r: Records) -> io::Result<Records> {
-    let mut r = r;
-    let mut at: usize = 0;
-    while at < bytes.len() {
-        let end = line_end(bytes, at);
-        r = case(rt, r, &bytes[at..end])?;
-        at = end + 1;
-    }
-    Ok(r)
 }
 
 // The cases of the next buffer.
-fn next_cases(rt: &(impl Input + Print), r: Records) -> io::Result<Records> {
+fn next_cases(rt: &(impl Input + Print), first: Records) -> io::Result<Records> {
     let mut space = [0u8; 65536];
     let n = read_full(&mut rt.reader(), &mut space)?;
-    cases(rt, &space[..n], r)
+    let mut r = first;
+    for line in space[..n].split(|byte| *byte == b'\n') {
+        r = case(rt, r, line)?;
+    }
+    Ok(r)
 }
 
 fn main(rt: HostRuntime) -> io::Result<()> {
-    let none = group_at(b"", 0);
-    let s = given(b"", none);
+    let none = whole(b"");
+    let s = given(&none, b"");
     let first = Records {
         last: s,
         kept: s,
-        beside: counters_of(none),
+        beside: counters_of(&none),
         recording: none,
     };
     let r = next_cases(&rt, first)?;

@@ -28,16 +28,15 @@ pub fn write(s: Station, w: Writing) -> StationWritten
     ensures left { result ≡ write_of s w }
     ensures told { write_told result.answer ≡ write_told_of s w }
 {
-    if within(s) {
-        let verdict = judge(s, w);
-        let total = verdict.total;
-        if verdict.number != 0 {
-            return refused_write(s, verdict.number);
-        }
-        return StationWritten {
-            answer: WriteAnswer::Total(total),
-            station: rewrite(s, w, total),
-        };
+    if !within(s) {
+        return refused_write(s, 18);
     }
-    refused_write(s, 18)
+    let verdict = judge(s, w);
+    if verdict.number != 0 {
+        return refused_write(s, verdict.number);
+    }
+    StationWritten {
+        answer: WriteAnswer::Total(verdict.total),
+        station: rewrite(s, w, verdict.total),
+    }
 }

@@ -27,23 +27,18 @@ fn places_of(c: Counters) -> Places
     ensures fits { Within 65535 result }
 {
     Places {
-        urgent: c.urgent as u32,
-        long: c.long as u32,
-        resolution: resolution_of(c, c.next) as u32,
+        urgent: u32::from(c.urgent),
+        long: u32::from(c.long),
+        resolution: u32::from(resolution_of(c, c.next)),
     }
 }
 
 // Whether a length passes its limit.
+#[tactic(auto, unfolding(rules::specs::Queueing::passes))]
 fn passes_limit(p: Places) -> bool
     ensures { result ≡ passes p }
 {
-    if URGENT_LIMIT < p.urgent {
-        return true;
-    }
-    if LONG_LIMIT < p.long {
-        return true;
-    }
-    RESOLUTION_LIMIT < p.resolution
+    URGENT_LIMIT < p.urgent || LONG_LIMIT < p.long || RESOLUTION_LIMIT < p.resolution
 }
 
 // Step 1 for whoever keeps these counters, by a row that was read: whether success is immediate, the lengths before and after, and whether

@@ -13,17 +13,16 @@ use rules::{Acted, Condition, Outcome};
 use serving::sends;
 
 // What a message in this condition does: its condition after the slot, the minislot of its request and the segment it sends.
+#[tactic(auto, unfolding(rules::specs::Stepping::acts_of))]
 pub fn acts(o: Outcome, k: Condition, pick: u8) -> Acted
     ensures { result ≡ acts_of o k pick }
 {
-    let landed = o.landed;
-    let turn = o.turn;
-    let settled = settled_in(landed, o.group, k);
+    let settled = settled_in(o.landed, o.group, k);
     let asked = request(o.resolution, o.group, pick, settled);
     let requesting = requests(o.resolution, o.group, settled);
     Acted {
-        condition: moves(turn, asked),
+        condition: moves(o.turn, asked),
         minislot: request_minislot(requesting, pick),
-        segment: sends(turn, o.resolution, o.group, settled),
+        segment: sends(o.turn, o.resolution, o.group, settled),
     }
 }

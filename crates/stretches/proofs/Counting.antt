@@ -10,7 +10,8 @@ use native.Mathlib.Decide.{dec_lt}
 use lib.Dec.{eqb, leb, ltb}
 use lib.ListN.{length, length-append}
 use borrow.Author.Tests.{eqb-true, eqb-false, ne_eqb, leb-true, leb-false, ltb-true, ltb-false}
-use Rattle.listlaws.specs.Lists.{each, each_pair, sum_of, gather_of}
+use Rattle.std.specs.List.{list_all, flat_map}
+use Rattle.listlaws.specs.Lists.{each_pair, sum_of}
 use Rattle.places.proofs.Counting.{times, times-append}
 use Rattle.stretches.specs.declared.Stretch.{Stretch}
 use Rattle.stretches.specs.Stretches.{apart}
@@ -27,9 +28,9 @@ pub length_up : (f l : ℕ) → length (up_from f l) ≡ l
 length_up f zero = refl
 length_up f (suc l) = ap suc (length_up (suc f) l)
 
-pub length-spread : (l : List Stretch) → length (gather_of spread l) ≡ sum_of (λ (s : Stretch). s.left) l
+pub length-spread : (l : List Stretch) → length (flat_map spread l) ≡ sum_of (λ (s : Stretch). s.left) l
 length-spread [] = refl
-length-spread (s ∷ l) = length-append (spread s) (gather_of spread l) ∙ rw (length_up s.first s.left, length-spread l)
+length-spread (s ∷ l) = length-append (spread s) (flat_map spread l) ∙ rw (length_up s.first s.left, length-spread l)
 
 times_below : (f l i : ℕ) → i < f → times i (up_from f l) ≡ 0
 times_below f zero i h = refl
@@ -80,13 +81,13 @@ none_apart a b la lb h = go (leb (a.first + a.left) b.first) refl (leb (b.first 
         (λ l. absurd (omega (arith, h b.first, times_in a.first a.left b.first (omega arith) (leb-false (a.first + a.left) b.first w), times_in b.first b.left b.first (omega arith) (omega arith))))
         (λ l. absurd (omega (arith, h a.first, times_in b.first b.left a.first (omega arith) (leb-false (b.first + b.left) a.first v), times_in a.first a.left a.first (omega arith) (omega arith))))
 
-times-parts : (i : ℕ) (s : Stretch) (l : List Stretch) → times i (gather_of spread (s ∷ l)) ≡ times i (spread s) + times i (gather_of spread l)
-times-parts i s l = times-append i (spread s) (gather_of spread l)
+times-parts : (i : ℕ) (s : Stretch) (l : List Stretch) → times i (flat_map spread (s ∷ l)) ≡ times i (spread s) + times i (flat_map spread l)
+times-parts i s l = times-append i (spread s) (flat_map spread l)
 
-each-apart : (a : Stretch) (l : List Stretch) (i : ℕ) → each (apart a) l ≡ true → times i (spread a) ≡ 1 → times i (gather_of spread l) ≡ 0
+each-apart : (a : Stretch) (l : List Stretch) (i : ℕ) → list_all (apart a) l ≡ true → times i (spread a) ≡ 1 → times i (flat_map spread l) ≡ 0
 each-apart a [] i e h = refl
 each-apart a (b ∷ l) i e h =
-    let (x, y) = (and-eq-true_iff (apart a b) (each (apart a) l)).0 e in
+    let (x, y) = (and-eq-true_iff (apart a b) (list_all (apart a) l)).0 e in
     omega (arith, times-parts i b l, apart_none a b i x h, each-apart a l i y h)
 
 times-most : (s : Stretch) (i : ℕ) → times i (spread s) ≤ 1
@@ -96,10 +97,10 @@ times-most s i = rw (times-spread s i) (go (leb s.first i && ltb i (s.first + s.
     go true = omega arith
     go false = omega arith
 
-pub apart-once : (l : List Stretch) → each_pair apart l ≡ true → (i : ℕ) → times i (gather_of spread l) ≤ 1
+pub apart-once : (l : List Stretch) → each_pair apart l ≡ true → (i : ℕ) → times i (flat_map spread l) ≤ 1
 apart-once [] e i = omega arith
 apart-once (s ∷ l) e i =
-    let (x, y) = (and-eq-true_iff (each (apart s) l) (each_pair apart l)).0 e in
+    let (x, y) = (and-eq-true_iff (list_all (apart s) l) (each_pair apart l)).0 e in
     by_cases (dec_lt (times i (spread s)) 1)
     (λ w. omega (arith, times-parts i s l, apart-once l y i))
     (λ w. omega (arith, times-parts i s l, times-most s i, each-apart s l i x (omega (arith, times-most s i))))
@@ -109,13 +110,13 @@ abbrev pub AllLeft : List Stretch → Type 0
 AllLeft [] = Unit {0}
 AllLeft (s ∷ l) = (1 ≤ s.left) × AllLeft l
 
-apart-all : (a : Stretch) (l : List Stretch) → 1 ≤ a.left → AllLeft l → ((i : ℕ) → times i (spread a) + times i (gather_of spread l) ≤ 1) → each (apart a) l ≡ true
+apart-all : (a : Stretch) (l : List Stretch) → 1 ≤ a.left → AllLeft l → ((i : ℕ) → times i (spread a) + times i (flat_map spread l) ≤ 1) → list_all (apart a) l ≡ true
 apart-all a [] la q h = refl
 apart-all a (b ∷ l) la q h =
     rw (none_apart a b la q.0 (λ i. omega (arith, h i, times-parts i b l)))
     (apart-all a l la q.1 (λ i. omega (arith, h i, times-parts i b l)))
 
-pub once-apart : (l : List Stretch) → AllLeft l → ((i : ℕ) → times i (gather_of spread l) ≤ 1) → each_pair apart l ≡ true
+pub once-apart : (l : List Stretch) → AllLeft l → ((i : ℕ) → times i (flat_map spread l) ≤ 1) → each_pair apart l ≡ true
 once-apart [] q h = refl
 once-apart (s ∷ l) q h =
     rw (apart-all s l q.0 q.1 (λ i. omega (arith, h i, times-parts i s l)))

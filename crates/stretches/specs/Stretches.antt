@@ -1,14 +1,8 @@
 -- Stretches cover a queue without overlap: as many slots left as the queue has places, no two stretches overlap. That this says what is
 -- meant, place by place, is shown in proofs/Counting. Assumes nothing.
-use Rattle.std.specs.Prelude.{Bool, ◌&&◌, ◌||◌, List, [], ◌∷◌, ℕ, ◌+◌, leb, eqb}
+use Rattle.std.specs.Prelude.{Bool, ◌&&◌, ◌||◌, List, ℕ, ◌+◌, leb, eqb}
 use Rattle.listlaws.specs.Lists.{each_pair, sum_of}
 use Rattle.stretches.specs.declared.Stretch.{Stretch}
-
--- stretches told as a list of first places and a list of slots left, as many as the shorter has
-abbrev pub stretches : List ℕ → List ℕ → List Stretch
-stretches [] lefts = []
-stretches (f ∷ firsts) [] = []
-stretches (f ∷ firsts) (l ∷ lefts) = record { first = f; left = l } ∷ stretches firsts lefts
 
 -- the slots left of all stretches
 abbrev pub slots_of : List Stretch → ℕ

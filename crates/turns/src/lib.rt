@@ -32,18 +32,12 @@ pub fn turn(entry: u16, p: Places) -> Turn
 pub fn is_open(t: Turn) -> bool
     ensures { result ≡ is_open t }
 {
-    match t {
-        Turn::Owned { .. } => false,
-        Turn::Urgent => false,
-        Turn::Long => false,
-        Turn::Resolve => false,
-        Turn::Open => true,
-    }
+    matches!(t, Turn::Open)
 }
 
 // One less, and 0 of 0: how a queue's length falls, and each place in it.
 pub fn less_one(x: u16) -> u16
     ensures { result ≡ x - 1 }
 {
-    if 0 < x { x - 1 } else { 0 }
+    x.saturating_sub(1)
 }

@@ -4,7 +4,7 @@
 #![tactic(auto)]
 
 ghost use Rattle.std.specs.Prelude.{◌≡◌};
-ghost use Rattle.message.specs.Message.{slots_for, slots_given_of};
+ghost use Rattle.message.specs.Message.{slots_for};
 ghost use Rattle.rules.specs.Requesting.{total_of};
 ghost use Rattle.rules.specs.Writing.{new_number_of, held_number_of};
 ghost use Rattle.verdicts.specs.Verdicts.{refused_verdict, verdict_by, verdict_of};
@@ -22,17 +22,6 @@ pub struct Verdict {
     pub total: u8,
 }
 
-// The slots of a message of this many bytes, 0 where it is none.
-fn slots_given(bytes: usize) -> u8
-    ensures { result ≡ slots_given_of bytes }
-{
-    let answer = slots(bytes);
-    match answer {
-        SlotTotal::Slots(total) => total,
-        SlotTotal::Refused(_) => 0,
-    }
-}
-
 fn refused(number: u8) -> Verdict
     ensures { result ≡ refused_verdict number }
 {
@@ -40,41 +29,40 @@ fn refused(number: u8) -> Verdict
 }
 
 // A new message of this many bytes, for a record that stands at k. 10: 0 bytes or more than 12,240. 9: the record is in use.
+#[tactic(auto, unfolding(crate::specs::Verdicts::verdict_by, message::specs::Message::slot_total_of))]
 fn judge_new(bytes: usize, k: Condition) -> Verdict
     ensures { result ≡ verdict_by (new_number_of bytes k) (slots_for bytes) }
 {
-    let total = slots_given(bytes);
-    let free = is_free(k);
-    if total == 0 {
-        return refused(10);
+    match slots(bytes) {
+        SlotTotal::Refused(_) => refused(10),
+        SlotTotal::Slots(_) if !is_free(k) => refused(9),
+        SlotTotal::Slots(total) => Verdict { number: 0, total },
     }
-    if !free {
-        return refused(9);
-    }
-    Verdict { number: 0, total }
 }
 
 // A message that is held, in a record that stands at k. 22: it isn't held.
+#[tactic(auto, unfolding(crate::specs::Verdicts::verdict_by))]
 fn judge_held(k: Condition) -> Verdict
     ensures { result ≡ verdict_by (held_number_of k) (total_of k) }
 {
-    let total = total_of(k);
-    let held = is_held(k);
-    if !held {
-        return refused(22);
+    if is_held(k) {
+        Verdict {
+            number: 0,
+            total: total_of(k),
+        }
+    } else {
+        refused(22)
     }
-    Verdict { number: 0, total }
 }
 
 // Whether a writing of a station goes through. An offer and a hold: 10, 9. A commit and a withdrawal: 22.
+#[tactic(auto, unfolding(crate::specs::Verdicts::verdict_of, crate::specs::Verdicts::verdict_by))]
 pub fn judge(s: Station, w: Writing) -> Verdict
     ensures { result ≡ verdict_of s w }
 {
     let k = record_in(record_of(w), s);
     match w {
-        Writing::Offer { bytes } => judge_new(bytes, k),
-        Writing::Hold { bytes } => judge_new(bytes, k),
-        Writing::Commit { .. } => judge_held(k),
-        Writing::Withdraw { .. } => judge_held(k),
+        Writing::Offer { bytes } | Writing::Hold { bytes } => judge_new(bytes, k),
+        Writing::Commit { .. } | Writing::Withdraw { .. } => judge_held(k),
     }
 }

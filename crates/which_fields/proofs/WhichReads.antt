@@ -1,5 +1,6 @@
 -- The ways of the reader of an index and a record's name, each a case of `which_in`: by the parts alone, and then by what was read of the bytes.
 -- Assumes nothing.
+use Rattle.std.specs.Prelude.{None}
 use mathlib.Core.Bool.{Bool, true, false}
 use mathlib.Core.Path.{◌≡◌, refl, sym, ◌∙◌}
 use mathlib.Core.List.{List, [], ◌∷◌}
@@ -8,22 +9,20 @@ use native.Mathlib.Omega.{arith}
 use lib.ListN.{length, drop, length-drop}
 use Rattle.fields.specs.Fields.{onto, parts, numeral}
 use Rattle.fields.specs.Steps.{field_of}
-use Rattle.fields.specs.declared.Field.TheVariants as field
 use Rattle.fields.proofs.FieldReads.{Read, none_true, unread, rest-next}
 use Rattle.number_lists.specs.NumberList.{is_number}
 use Rattle.call_fields.proofs.OfferReads.{not_field, not_within, is_within}
-use Rattle.which_fields.specs.declared.WhichFields.TheVariants.{Broken}
 use Rattle.which_fields.specs.WhichFields.{short_name, long_name, named, which_in}
 use Rattle.which_fields.proofs.WholePart.{Parted, parted, first-shorter, not-word}
 
 -- the first part is no index
-bad-index : (p : List ℕ) (qs : List (List ℕ)) → is_number 65535 p ≡ false → which_in (p ∷ qs) ≡ Broken
+bad-index : (p : List ℕ) (qs : List (List ℕ)) → is_number 65535 p ≡ false → which_in (p ∷ qs) ≡ None
 unfolding which_in
 bad-index p [] e = refl
 bad-index p (q ∷ []) e = rw e
 bad-index p (q ∷ r ∷ qs) e = refl
 
-pub which-unread : (at : ℕ) (ps : List (List ℕ)) → field_of at ps ≡ field.Broken → which_in ps ≡ Broken
+pub which-unread : (at : ℕ) (ps : List (List ℕ)) → field_of at ps ≡ None → which_in ps ≡ None
 unfolding which_in
 which-unread at [] e = refl
 which-unread at (p ∷ ps) e = bad-index p ps (not_field 65535 p (unread at p ps e))
@@ -37,7 +36,7 @@ long-part : parts long_name ≡ long_name ∷ []
 unfolding parts onto
 long-part = refl
 
-no_name : (index : ℕ) (l p q : List ℕ) (qs : List (List ℕ)) → parts l ≡ p ∷ q ∷ qs → named index l ≡ Broken
+no_name : (index : ℕ) (l p q : List ℕ) (qs : List (List ℕ)) → parts l ≡ p ∷ q ∷ qs → named index l ≡ None
 unfolding named
 no_name index l p q qs e = rw (not-word short_name l p q qs short-part e, not-word long_name l p q qs long-part e)
 
@@ -53,11 +52,11 @@ name_after p l i = go (parts l) refl (parted l)
 
 -- the index was read
 module _ (bytes : List ℕ) {at index next : ℕ} {last : Bool} (r : Read at (parts (drop at bytes)) index next last) where
-  pub which-one : last ≡ true → which_in (parts (drop at bytes)) ≡ Broken
+  pub which-one : last ≡ true → which_in (parts (drop at bytes)) ≡ None
   unfolding which_in
   which-one e = rw (r.these, none_true r.rest (r.ends ∙ e))
 
-  pub which-high : 65535 < index → which_in (parts (drop at bytes)) ≡ Broken
+  pub which-high : 65535 < index → which_in (parts (drop at bytes)) ≡ None
   which-high h = rw r.these (bad-index r.part r.rest (not_within 65535 r.part (rw r.value h)))
 
   module _ (more : last ≡ false) where

@@ -6,44 +6,47 @@ ghost use Rattle.std.specs.Prelude.{◌≡◌, drop};
 ghost use Rattle.fields.specs.Fields.{parts};
 ghost use Rattle.which_fields.specs.WhichFields.{named, which_in};
 
-use fields::{Field, field_at};
+use fields::field_at;
 use prefixes::is_word;
 use rules::Which;
 
-// A commit's or a withdrawal's index and the record that it names, or number 19.
+// A commit's or a withdrawal's index and the record that it names.
 #[derive(Clone, Copy)]
-pub enum WhichFields {
-    Named(u16, Which),
-    Broken,
+pub struct WhichFields {
+    pub index: u16,
+    pub which: Which,
 }
 
-// The index beside the record that these bytes name.
-fn record_named(index: u16, name: &[u8]) -> WhichFields
+// The index beside the record that these bytes name, if they name one.
+fn record_named(index: u16, name: &[u8]) -> Option<WhichFields>
     ensures { result ≡ named index name.now }
 {
     if is_word(name, b"short") {
-        return WhichFields::Named(index, Which::ShortOne);
+        return Some(WhichFields {
+            index,
+            which: Which::ShortOne,
+        });
     }
     if is_word(name, b"long") {
-        return WhichFields::Named(index, Which::LongOne);
+        return Some(WhichFields {
+            index,
+            which: Which::LongOne,
+        });
     }
-    WhichFields::Broken
+    None
 }
 
 // The index and the record's name, whose fields begin at place start. The name is all that stands after the index and its comma: a comma
-// more would be a byte of it, and no name has one.
-pub fn which_fields(bytes: &[u8], start: usize) -> WhichFields
+// more would be a byte of it, and no name has one. None: they break the form.
+pub fn which_fields(bytes: &[u8], start: usize) -> Option<WhichFields>
     ensures { result ≡ which_in (parts (drop start bytes.now)) }
 {
-    let one = field_at(bytes, start);
-    let Field::Number(index, next, last) = one else {
-        return WhichFields::Broken;
-    };
-    if last {
-        return WhichFields::Broken;
+    let one = field_at(bytes, start)?;
+    if one.last {
+        return None;
     }
-    if 65535 < index {
-        return WhichFields::Broken;
+    if 65535 < one.value {
+        return None;
     }
-    record_named(index as u16, &bytes[next..])
+    record_named(one.value as u16, &bytes[one.next..])
 }

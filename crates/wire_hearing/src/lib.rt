@@ -3,7 +3,7 @@
 #![tactic(auto)]
 
 ghost use Rattle.std.specs.Prelude.{◌≡◌, ℕ, ◌-◌, get_or};
-ghost use Rattle.listlaws.specs.Lists.{each};
+ghost use Rattle.std.specs.List.{list_all};
 ghost use Rattle.channel_rules.specs.ChannelCalls.{blank_row};
 ghost use Rattle.rules.specs.Limits.{between};
 ghost use Rattle.wire_hearing.specs.GroupRead.{first_read, group_read};
@@ -16,20 +16,9 @@ use rules::{Counters, WireRow};
 
 // Whether every pick is one of m minislots.
 pub fn picks_within(picks: &[u8], m: u8) -> bool
-    ensures { result ≡ each (λ (pick : ℕ). between 1 pick m) picks.now }
+    ensures { result ≡ list_all (λ (pick : ℕ). between 1 pick m) picks.now }
 {
-    let mut i: usize = 0;
-    while i < picks.len() {
-        let pick = picks[i];
-        if pick < 1 {
-            return false;
-        }
-        if m < pick {
-            return false;
-        }
-        i += 1;
-    }
-    true
+    picks.iter().all(|pick| 1 <= *pick && *pick <= m)
 }
 
 // The first m minislots of a row, read.
@@ -39,12 +28,10 @@ fn read_wire_row(minislots: [Minislot; 8], m: u8) -> RowReading
     let end = held(m);
     let mut words = [0u16; 8];
     let mut counts = [0u8; 8];
-    let mut j: usize = 0;
-    while j < 8 {
-        let x = minislots[j];
+    // an array's `map` tells its calls and not its result
+    for (j, x) in minislots.iter().enumerate() {
         words[j] = x.word;
         counts[j] = x.count;
-        j += 1;
     }
     read_row(&words[0..end], &counts[0..end], m)
 }
@@ -66,7 +53,5 @@ pub fn row_at(wire: [WireRow; 8], group: u8) -> WireRow
 pub fn read_group(c: Counters, wire: [WireRow; 8]) -> RowReading
     ensures { result ≡ group_read c wire }
 {
-    let row = row_at(wire, c.next);
-    let minislots = row.minislots;
-    read_wire_row(minislots, c.minislots)
+    read_wire_row(row_at(wire, c.next).minislots, c.minislots)
 }

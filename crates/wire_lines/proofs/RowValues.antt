@@ -2,7 +2,7 @@
 -- so far. By two stores at the end of what is filled in. Assumes nothing.
 use mathlib.Core.Path.{◌≡◌, refl, sym, ap}
 use mathlib.Core.List.{List, [], ◌∷◌, ◌++◌}
-use Prim.Native.Nat.{ℕ, zero, suc, ◌+◌, ◌*◌, ◌<◌}
+use Prim.Native.Nat.{ℕ, zero, suc, ◌+◌, ◌*◌, ◌<◌, ◌≤◌}
 use native.Mathlib.Numerals.{add-one}
 use native.Mathlib.Omega.{arith}
 use lib.ListN.{length, get_or, set, take}
@@ -16,7 +16,7 @@ two-more (v ∷ []) i x y h = absurd (omega arith)
 two-more (v ∷ u ∷ l) zero x y h = refl
 two-more (v ∷ u ∷ l) (suc i) x y h = ap (λ (r : List ℕ). v ∷ r) (two-more (u ∷ l) i x y (omega arith))
 
-module _ (values : List ℕ) (call group : ℕ) (row : List Minislot) (j : ℕ) (d : Minislot) (full : length values ≡ 18) (whole : length row ≡ 8) (h : j < 8) where
+module _ (values : List ℕ) (call group : ℕ) (row : List Minislot) (j : ℕ) (d : Minislot) (full : length values ≡ 18) (few : length row ≤ 8) (h : j < length row) where
   pub row_next : take (2 + j * 2) values ≡ call ∷ group ∷ cells (take j row)
       → take (2 + (j + 1) * 2) (set (set values (2 + j * 2) (get_or row j d).word) (3 + j * 2) (get_or row j d).count) ≡ call ∷ group ∷ cells (take (j + 1) row)
   row_next e =

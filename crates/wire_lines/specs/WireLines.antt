@@ -1,7 +1,8 @@
 -- The lines that `show` of `rehearse` prints of a channel's wire: each group's row. A line begins with the call's number in the list.
 -- Bytes are numbers: letters are ASCII. Assumes nothing.
 use Rattle.std.specs.Prelude.{List, [], ◌∷◌, map, ℕ, ◌+◌, ◌-◌, get_or, take}
-use Rattle.listlaws.specs.Lists.{tabulate, gather_of}
+use Rattle.std.specs.List.{flat_map}
+use Rattle.listlaws.specs.Lists.{tabulate}
 use Rattle.decimals.specs.Decimal.{digits_of}
 use Rattle.decimals.specs.Printing.{record_of}
 use Rattle.minislot.specs.declared.Minislot.{Minislot}
@@ -14,7 +15,7 @@ wire_word = 119 ∷ 105 ∷ 114 ∷ 101 ∷ []
 
 -- word and count of each minislot
 abbrev pub cells : List Minislot → List ℕ
-cells row = gather_of (λ (x : Minislot). x.word ∷ x.count ∷ []) row
+cells row = flat_map (λ (x : Minislot). x.word ∷ x.count ∷ []) row
 
 -- `k,wire,g,word,count,word,count,..` of the first m minislots of group g's row
 unfoldable pub wire_line : ℕ → ℕ → List WireRow → ℕ → List ℕ

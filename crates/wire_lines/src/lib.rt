@@ -13,22 +13,18 @@ use queueing::held;
 use rules::WireRow;
 use wire_hearing::row_at;
 
-// Two numbers, and then word and count of each of the first m minislots of a row.
-fn row_values(call: u64, group: u8, minislots: [Minislot; 8], m: usize) -> [u64; 18]
-    requires { m ≤ 8 }
-    ensures whole { length minislots ≡ 8 }
+// Two numbers, and then word and count of each minislot of a row.
+fn row_values(call: u64, group: u8, minislots: &[Minislot]) -> [u64; 18]
+    requires { length minislots.now ≤ 8 }
     ensures size { length result ≡ 18 }
-    ensures values { take (2 + m * 2) result ≡ call ∷ group ∷ cells (take m minislots) }
+    ensures values { take (2 + length minislots.now * 2) result ≡ call ∷ group ∷ cells minislots.now }
 {
-    let mut values = [0u64; 18];
+    let mut values = [0; 18];
     values[0] = call;
     values[1] = group as u64;
-    let mut j: usize = 0;
-    while j < m {
-        let x = minislots[j];
+    for (j, x) in minislots.iter().enumerate() {
         values[2 + j * 2] = x.word as u64;
         values[3 + j * 2] = x.count as u64;
-        j += 1;
     }
     values
 }
@@ -38,10 +34,9 @@ fn put_row(out: &mut [u8], at: usize, call: u64, m: u8, wire: [WireRow; 8], grou
     ensures buffer { out.new ≡ put_at out.old at (wire_line call m wire group) }
     ensures reached { result ≡ place_after out.old at (wire_line call m wire group) }
 {
-    let end = held(m);
     let row = row_at(wire, group);
-    let minislots = row.minislots;
-    let values = row_values(call, group, minislots, end);
+    let end = held(m);
+    let values = row_values(call, group, &row.minislots[..end]);
     put_form(out, at, b"#,wire", &values[..2 + end * 2])
 }
 
@@ -51,10 +46,8 @@ pub fn put_wire(out: &mut [u8], at: usize, call: u64, m: u8, n: u8, wire: [WireR
     ensures reached { result ≡ place_after_lines out.old at (groups_lines n (wire_line call m wire)) }
 {
     let mut to = at;
-    let mut i: u8 = 0;
-    while i < n {
-        i += 1;
-        to = put_row(out, to, call, m, wire, i);
+    for i in 0..n {
+        to = put_row(out, to, call, m, wire, i + 1);
     }
     to
 }

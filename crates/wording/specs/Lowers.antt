@@ -3,7 +3,8 @@
 -- Assumes nothing.
 use Rattle.std.specs.Prelude.{List, map, ℕ, ◌+◌, ◌-◌, eqb, leb, ltb, length, get_or}
 use Rattle.std.specs.Int.Count.{ones, ones_in}
-use Rattle.listlaws.specs.Lists.{count_of, gather_of}
+use Rattle.std.specs.List.{flat_map}
+use Rattle.listlaws.specs.Lists.{count_of}
 use Rattle.pattern.specs.Patterns.{those}
 use Rattle.indexing.specs.Halves.{numbers}
 
@@ -14,7 +15,7 @@ reached_of before index = count_of (λ b. leb b index) before
 -- the numbers of six digits, by how many ones they have, then rising
 unfoldable pub lowers : List ℕ
 unfolding numbers those ones_in
-lowers = gather_of (λ n. those (λ x. eqb (ones_in 6 x) n) 0 64) (numbers 0 7)
+lowers = flat_map (λ n. those (λ x. eqb (ones_in 6 x) n) 0 64) (numbers 0 7)
 
 -- where those begin among them that go with an upper half of 0 to 6 ones: the numbers with fewer ones come first
 unfoldable pub firsts : List ℕ

@@ -38,15 +38,7 @@ fn reached(before: &[u16; 64], index: u16) -> u16
     requires { before.now ≡ patterns_before }
     ensures { (result ≡ reached_of before.now index) × (result ≤ 64) }
 {
-    let mut n: u16 = 0;
-    let mut h: usize = 0;
-    while h < 64 {
-        if before[h] <= index {
-            n += 1;
-        }
-        h += 1;
-    }
-    n
+    before.iter().filter(|b| **b <= index).count() as u16
 }
 
 // The lower half with a rank among those that go with an upper half: with as many ones as that lacks of six.

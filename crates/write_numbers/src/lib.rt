@@ -33,7 +33,5 @@ pub fn write_number(
     if n <= k {
         return 16;
     }
-    let s = stations[k];
-    let verdict = judge(s, w);
-    verdict.number
+    judge(stations[k], w).number
 }

@@ -34,8 +34,7 @@ fn write_at(stations: [Station; 64], n: usize, wire: [WireRow; 8], k: usize, w: 
     ensures { result ≡ written_to stations n wire k w }
 {
     let s = stations[k];
-    let verdict = judge(s, w);
-    let total = verdict.total;
+    let total = judge(s, w).total;
     let mut after = stations;
     after[k] = rewrite(s, w, total);
     Decided {
@@ -48,6 +47,7 @@ fn write_at(stations: [Station; 64], n: usize, wire: [WireRow; 8], k: usize, w: 
 }
 
 // A writing on the first n of the records.
+#[tactic(auto, unfolding(crate::specs::Written::decided_of))]
 pub fn write(
     stations: [Station; 64],
     n: usize,
@@ -69,6 +69,5 @@ pub fn write(
 pub fn place_write(d: Loaded, wire: [WireRow; 8], index: u16, w: Writing) -> Decided
     ensures { result ≡ decided_of d.stations d.count wire index w }
 {
-    let stations = d.stations;
-    write(stations, d.count, wire, index, w)
+    write(d.stations, d.count, wire, index, w)
 }

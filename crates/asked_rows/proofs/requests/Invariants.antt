@@ -1,11 +1,9 @@
 -- `requests` stores the request of each message asked behind the others. Assumes nothing.
-use Prim.Native.Nat.{◌-◌, ◌≤◌}
-use Rattle.asked_rows.specs.Asked.{no_request, request_drawn}
-use Rattle.drawing.proofs.Filling.{Filled}
+use mathlib.Core.Path.{◌≡◌}
+use Prim.Native.Nat.{◌≤◌}
+use lib.ListN.{length, take}
+use Rattle.asked_rows.specs.Asked.{requests_of}
 use Rattle.asked_rows.proofs.requests.Given as goal
 
-abbrev pub invariant-loop-i : goal.invariant-loop-i
-invariant-loop-i l = (l.i ≤ l.end) × (l.end ≤ 128) × Filled 128 request_drawn no_request l.messages l.i l.n l.list
-
-abbrev pub decreases-loop-i : goal.decreases-loop-i
-decreases-loop-i l = l.end - l.i
+abbrev pub invariant-loop-m : goal.invariant-loop-m
+invariant-loop-m l = (length l.requests.items ≤ l.m-index) × (l.requests.items ≡ requests_of (take l.m-index l.messages.items))

@@ -8,11 +8,8 @@ use Rattle.beside.proofs.acts_both.Goals.{then-both_fresh, else-both_fresh, then
 
 pub loop-i-init : goal.loop-i-init
 loop-i-init c = (
-  omega arith,
-  (
-    elim c.if-both_fresh.branch [ then-both_fresh w ↦ omega arith | else-both_fresh w ↦ omega arith ],
-    rw (c.stay.ensures, c.stay-2.ensures),
-  ),
+  elim c.if-both_fresh.branch [ then-both_fresh w ↦ omega arith | else-both_fresh w ↦ omega arith ],
+  rw (c.stay.ensures, c.stay-2.ensures),
 )
 
 pub loop-i-preserved : goal.loop-i-preserved
@@ -21,14 +18,11 @@ loop-i-preserved c =
     let l = c.loop-i in
     let low : l.i < 2 = omega arith in
     let idles = c.idle.ensures in (
-      omega arith,
-      (
-        l.invariant.1.0,
-        elim c.if-not-idle.branch [
-          | then-not-idle w ↦ w.after-is ∙ acted a.o a.pick (pair a.o a.pick a.short a.long) l.i low l.invariant.1.1 w.acts.ensures
-          | else-not-idle w ↦ w.after-is ∙ passed a.o a.pick (pair a.o a.pick a.short a.long) l.i low l.invariant.1.1 (sym idles ∙ w.if-not-idle.false)
-        ],
-      ),
+      l.invariant.0,
+      elim c.if-not-idle.branch [
+        | then-not-idle w ↦ w.after-is ∙ acted a.o a.pick (pair a.o a.pick a.short a.long) l.i low l.invariant.1 w.acts.ensures
+        | else-not-idle w ↦ w.after-is ∙ passed a.o a.pick (pair a.o a.pick a.short a.long) l.i low l.invariant.1 (sym idles ∙ w.if-not-idle.false)
+      ],
     )
 
 pub returns : goal.returns
@@ -37,6 +31,6 @@ returns c =
     let l = c.loop-i in
     let fresh = c.both_fresh.ensures in
     elim c.if-both_fresh.branch [
-      | then-both_fresh w ↦ l.invariant.1.1 ∙ first-acts a.o a.pick a.short a.long l.i (omega arith) (sym fresh ∙ w.if-both_fresh.true)
-      | else-both_fresh w ↦ l.invariant.1.1 ∙ both_act a.o a.pick a.short a.long l.i (omega arith) (sym fresh ∙ w.if-both_fresh.false)
+      | then-both_fresh w ↦ l.invariant.1 ∙ first-acts a.o a.pick a.short a.long l.i (omega arith) (sym fresh ∙ w.if-both_fresh.true)
+      | else-both_fresh w ↦ l.invariant.1 ∙ both_act a.o a.pick a.short a.long l.i (omega arith) (sym fresh ∙ w.if-both_fresh.false)
     ]

@@ -5,32 +5,32 @@ use Rattle.fields.proofs.FieldReads.{was_read}
 use Rattle.call_fields.proofs.OfferReads.{offer-unread, offer-one, offer-high, offer-half, offer-two, offer-many}
 use Rattle.call_fields.proofs.offer_fields.Goals as goal
 
-pub returns-in_default : goal.returns-in_default
-returns-in_default c = sym (offer-unread _ _ (sym c.field_at-one.ensures ∙ c.in_default.is))
+pub returns-in_err-one : goal.returns-in_err-one
+returns-in_err-one c = c.from_residual.ensures ∙ sym (offer-unread _ _ (sym c.field_at.ensures ∙ c.in_err-one.was))
 
-pub returns-then-last : goal.returns-then-last
-returns-then-last c =
-    let r = was_read _ _ _ _ _ (sym c.field_at-one.ensures ∙ c.in-Number.is) in
-    sym (offer-one _ r c.if-last.true)
+pub returns-then-one : goal.returns-then-one
+returns-then-one c =
+    let r = was_read _ _ _ (sym c.field_at.ensures ∙ c.in_ok-one.was) in
+    sym (offer-one _ r c.if-one.true)
 
-pub returns-then-index-gt65535 : goal.returns-then-index-gt65535
-returns-then-index-gt65535 c =
-    let r = was_read _ _ _ _ _ (sym c.field_at-one.ensures ∙ c.in-Number.is) in
+pub returns-then-one-gt65535 : goal.returns-then-one-gt65535
+returns-then-one-gt65535 c =
+    let r = was_read _ _ _ (sym c.field_at.ensures ∙ c.in_ok-one.was) in
     sym (offer-high _ r (search rules))
 
-pub returns-in_default-two : goal.returns-in_default-two
-returns-in_default-two c =
-    let r = was_read _ _ _ _ _ (sym c.field_at-one.ensures ∙ c.in-Number.is) in
-    sym (offer-half _ r c.if-last.false (sym c.field_at-two.ensures ∙ c.in_default-two.is))
+pub returns-in_err-two : goal.returns-in_err-two
+returns-in_err-two c =
+    let r = was_read _ _ _ (sym c.field_at.ensures ∙ c.in_ok-one.was) in
+    c.from_residual-in_err-two.ensures ∙ sym (offer-half _ r c.if-one.false (sym c.field_at-2.ensures ∙ c.in_err-two.was))
 
-pub returns-then-done : goal.returns-then-done
-returns-then-done c =
-    let r = was_read _ _ _ _ _ (sym c.field_at-one.ensures ∙ c.in-Number.is) in
-    let q = was_read _ _ _ _ _ (sym c.field_at-two.ensures ∙ c.in-Number-two.is) in
-    sym (offer-two _ r c.if-last.false q (search rules) c.if-done.true)
+pub returns-then-not-two : goal.returns-then-not-two
+returns-then-not-two c =
+    let r = was_read _ _ _ (sym c.field_at.ensures ∙ c.in_ok-one.was) in
+    let q = was_read _ _ _ (sym c.field_at-2.ensures ∙ c.in_ok-two.was) in
+    sym (offer-many _ r c.if-one.false q (search rules))
 
 pub returns : goal.returns
 returns c =
-    let r = was_read _ _ _ _ _ (sym c.field_at-one.ensures ∙ c.in-Number.is) in
-    let q = was_read _ _ _ _ _ (sym c.field_at-two.ensures ∙ c.in-Number-two.is) in
-    sym (offer-many _ r c.if-last.false q c.if-done.false)
+    let r = was_read _ _ _ (sym c.field_at.ensures ∙ c.in_ok-one.was) in
+    let q = was_read _ _ _ (sym c.field_at-2.ensures ∙ c.in_ok-two.was) in
+    sym (offer-two _ r c.if-one.false q (search rules) (search rules))

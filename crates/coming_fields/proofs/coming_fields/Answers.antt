@@ -5,21 +5,20 @@ use Rattle.fields.proofs.FieldReads.{was_read}
 use Rattle.coming_fields.proofs.ComingReads.{coming-unread, coming-high, coming-one, coming-many}
 use Rattle.coming_fields.proofs.coming_fields.Goals as goal
 
-pub returns-in_default : goal.returns-in_default
-returns-in_default c =
-    c.broken_coming.ensures ∙ sym (coming-unread _ _ (sym c.field_at-one.ensures ∙ c.in_default.is))
+pub returns-in_err-one : goal.returns-in_err-one
+returns-in_err-one c = c.from_residual.ensures ∙ sym (coming-unread _ _ (sym c.field_at.ensures ∙ c.in_err-one.was))
 
-pub returns-then-w-gt65535 : goal.returns-then-w-gt65535
-returns-then-w-gt65535 c =
-    let r = was_read _ _ _ _ _ (sym c.field_at-one.ensures ∙ c.in-Number.is) in
-    c.broken_coming-then-w-gt65535.ensures ∙ sym (coming-high _ r (search rules))
+pub returns-then-one-gt65535 : goal.returns-then-one-gt65535
+returns-then-one-gt65535 c =
+    let r = was_read _ _ _ (sym c.field_at.ensures ∙ c.in_ok-one.was) in
+    sym (coming-high _ r (search rules))
 
-pub returns-then-last : goal.returns-then-last
-returns-then-last c =
-    let r = was_read _ _ _ _ _ (sym c.field_at-one.ensures ∙ c.in-Number.is) in
-    sym (coming-one _ r (search rules) (search rules))
+pub returns-then-not-one : goal.returns-then-not-one
+returns-then-not-one c =
+    let r = was_read _ _ _ (sym c.field_at.ensures ∙ c.in_ok-one.was) in
+    sym (coming-many _ r (search rules))
 
 pub returns : goal.returns
 returns c =
-    let r = was_read _ _ _ _ _ (sym c.field_at-one.ensures ∙ c.in-Number.is) in
-    c.broken_coming-2.ensures ∙ sym (coming-many _ r (search rules))
+    let r = was_read _ _ _ (sym c.field_at.ensures ∙ c.in_ok-one.was) in
+    sym (coming-one _ r (search rules) (search rules))

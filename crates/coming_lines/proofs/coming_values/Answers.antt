@@ -1,4 +1,4 @@
--- `coming_values` meets its contract. The loop's invariant: with the entries to come stored from where it stands, the numbers are what they are to be. The measure is how many entries are to come. Assumes nothing.
+-- `coming_values` meets its contract, entry by entry. Assumes nothing.
 use mathlib.Core.Path.{◌≡◌, refl, ◌∙◌}
 use Prim.Native.Nat.{◌≤◌}
 use native.Mathlib.Omega.{arith}
@@ -11,16 +11,16 @@ pub loop-i-init : goal.loop-i-init
 loop-i-init c =
     let a = c.args in
     let n : length a.list ≡ 1025 = search rules in
-    (omega arith, n, refl, entries-all 1025 a.call a.slots a.list n)
+    record { size = refl; filled = entries-all 1025 a.call a.slots a.list n }
 
 pub loop-i-preserved : goal.loop-i-preserved
 loop-i-preserved c =
     let l = c.loop-i in
-    let e = entry_more l.values c.args.list l.i (omega (arith, l.invariant.1)) in
-    (omega arith, l.invariant.1, rw length-set l.invariant.2, e ∙ l.invariant.3)
+    let e = entry_more l.values c.args.list l.i (omega arith) in
+    record { size = rw length-set l.invariant.size; filled = e ∙ l.invariant.filled }
 
 pub returns : goal.returns
 returns c =
     let l = c.loop-i in
-    let k : length c.args.list ≤ l.i = omega (arith, l.invariant.1) in
-    rw (drop_of_length-le _ k) at l.invariant.3
+    let k : length c.args.list ≤ l.i = omega arith in
+    rw (drop_of_length-le _ k) at l.invariant.filled

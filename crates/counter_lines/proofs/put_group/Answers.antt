@@ -11,10 +11,10 @@ returns-then-opened_of c =
       reached = rw (c.resolution_of.ensures, e) at c.put_form.ensures.reached;
     }
 
-pub returns : goal.returns
-returns c =
+pub returns-else-opened_of : goal.returns-else-opened_of
+returns-else-opened_of c =
     let a = c.args in
     let e = no_form a.call a.c a.group (sym c.opened_of.ensures ∙ c.if-opened_of.false) in record {
-      buffer = rw (c.resolution_of.ensures, e) at c.put_form-2.ensures.buffer;
-      reached = rw (c.resolution_of.ensures, e) at c.put_form-2.ensures.reached;
+      buffer = rw (c.resolution_of.ensures, e) at c.put_form-else-opened_of.ensures.buffer;
+      reached = rw (c.resolution_of.ensures, e) at c.put_form-else-opened_of.ensures.reached;
     }

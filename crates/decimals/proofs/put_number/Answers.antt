@@ -20,8 +20,8 @@ returns-then-has_room c =
       reached = c.write_number.ensures.reached ∙ rw d p.1;
     }
 
-pub returns : goal.returns
-returns c =
+pub returns-else-has_room : goal.returns-else-has_room
+returns-else-has_room c =
     let a = c.args in
     let all_told = put-none _ a.at (digits_of a.value) (rw c.digits-size.ensures.count at (sym c.has_room.ensures ∙ c.if-has_room.false)) in
     record { buffer = all_told.0; reached = all_told.1 }

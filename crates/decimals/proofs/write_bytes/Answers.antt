@@ -1,41 +1,19 @@
--- `write_bytes` meets its contract. The loop's invariant: with the bytes to come stored from where it stands, the buffer is what it is to be.
--- The measure is how many bytes are to come. Assumes nothing.
-use mathlib.Core.Path.{refl, ◌∙◌}
+-- `write_bytes` meets its contract: a copy into the part of the buffer is one run of stores. Assumes nothing.
+use mathlib.Core.Path.{refl, sym, ◌∙◌}
+use mathlib.Core.List.{append_assoc}
+use Prim.Native.Nat.{◌+◌, ◌-◌}
 use native.Mathlib.Omega.{arith}
-use lib.ListN.{length-set, drop_of_length-le}
-use Rattle.decimals.proofs.Stores.{store-next}
+use lib.ListN.{length, take, drop}
+use lib.Seq.{sets-eq}
+use Rattle.std.proofs.lemmas.List.Edits.{paste_all}
+use Rattle.std.proofs.lemmas.Slice.{put_mid-paste}
 use Rattle.decimals.proofs.write_bytes.Goals as goal
 
-pub loop-from-init : goal.loop-from-init
-loop-from-init c = (omega arith, omega arith, refl, refl)
-
-pub bounds-bytes-from : goal.bounds-bytes-from
-bounds-bytes-from c = omega arith
-
-pub bounds-out-to : goal.bounds-out-to
-bounds-out-to c = omega arith
-
-pub overflow_add-to : goal.overflow_add-to
-overflow_add-to c = omega arith
-
-pub overflow_add-from : goal.overflow_add-from
-overflow_add-from c = omega arith
-
-pub loop-from-smaller : goal.loop-from-smaller
-loop-from-smaller c = omega arith
-
-pub loop-from-preserved : goal.loop-from-preserved
-loop-from-preserved c =
-    let l = c.loop-from in (
-      omega arith,
-      omega arith,
-      rw length-set l.invariant.2,
-      store-next l.out _ l.to l.from (omega arith) ∙ l.invariant.3,
-    )
-
-pub returns : goal.returns
-returns c =
-    let l = c.loop-from in record {
-      buffer = rw (drop_of_length-le _ c.loop-from-test.false) at l.invariant.3;
-      reached = omega arith;
-    }
+pub returns-clause-buffer : goal.returns-clause-buffer
+returns-clause-buffer c =
+    let a = c.args in
+    let n = length a.bytes.now in
+    put_mid-paste a.at (a.at + n - a.at) a.out.now _ a.bytes.now n c.copy_from_slice.ensures.after (omega arith) refl
+    ∙ paste_all a.out.now a.at a.bytes.now n refl
+    ∙ sym (append_assoc (take a.at a.out.now) a.bytes.now (drop (a.at + n) a.out.now))
+    ∙ sym (sets-eq a.bytes.now a.out.now a.at (omega arith))

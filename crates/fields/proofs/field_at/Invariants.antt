@@ -1,7 +1,7 @@
 -- `field_at` meets its contract. The loop's invariant: what the reader answers at the place reached, with the digits read, is what it answers at the start.
--- The measure is what is left of the bytes. Assumes nothing.
+-- Assumes nothing.
 use mathlib.Core.Path.{◌≡◌}
-use Prim.Native.Nat.{◌-◌, ◌^◌, ◌≤◌, ◌<◌}
+use Prim.Native.Nat.{◌^◌, ◌≤◌, ◌<◌}
 use lib.ListN.{length, drop}
 use Rattle.fields.specs.Fields.{parts}
 use Rattle.fields.specs.Steps.{field_of}
@@ -14,6 +14,3 @@ invariant-loop-at l =
     × (l.value < 10 ^ l.digits)
     × ((l.digits ≡ 0 → ⊥) → l.at ≤ length l.bytes)
     × (read_from l.at l.value l.digits (parts (drop l.at l.bytes)) ≡ field_of l.start (parts (drop l.start l.bytes)))
-
-abbrev pub decreases-loop-at : goal.decreases-loop-at
-decreases-loop-at l = length l.bytes - l.at

@@ -11,7 +11,7 @@ pub returns : goal.returns
 returns c =
     let cut = c.advance_at-a.ensures in
     record {
-      buffer = rw (← cut) c.put-after.ensures.buffer;
-      answer = rw (← cut, c.put-after.ensures.reached);
+      buffer = rw (← cut) c.put.ensures.buffer;
+      answer = rw (← cut, c.put.ensures.reached);
       told = ap (λ (x : Advance Follower). progress_told x.progress) cut ∙ next-told _ _ _ _;
     }

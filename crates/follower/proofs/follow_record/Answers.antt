@@ -6,9 +6,9 @@ use Rattle.follower.proofs.follow_record.Goals as goal
 pub returns : goal.returns
 returns c =
     let read = c.read_record-s.ensures in
-    let known = c.progress_of-progress.ensures in
+    let known = c.progress_of.ensures in
     record {
-      buffer = rw (← read) c.put-after.ensures.buffer;
-      answer = rw (← read, c.put-after.ensures.reached, known);
+      buffer = rw (← read) c.put.ensures.buffer;
+      answer = rw (← read, c.put.ensures.reached, known);
       told = rw (known, read) (record_told _ _);
     }

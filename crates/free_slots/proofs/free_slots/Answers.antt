@@ -9,46 +9,35 @@ use Rattle.free_slots.proofs.free_slots.Goals as goal
 use Rattle.free_slots.proofs.free_slots.Goals.{then-calendar-p, else-calendar-p}
 
 pub loop-i-init : goal.loop-i-init
-loop-i-init c = (omega arith, none_yet c.args.calendar c.args.position (omega arith))
+loop-i-init c = none_yet c.args.calendar c.args.position (omega arith)
 
 pub overflow_cast-p : goal.overflow_cast-p
-overflow_cast-p c = omega (arith, at_most c.loop-i.invariant.1)
+overflow_cast-p c = omega (arith, at_most c.loop-i.invariant)
 
 pub offset_bounds-calendar-p : goal.offset_bounds-calendar-p
-offset_bounds-calendar-p c = omega (arith, at_most c.loop-i.invariant.1)
+offset_bounds-calendar-p c = omega (arith, at_most c.loop-i.invariant)
 
 pub bounds-calendar-p : goal.bounds-calendar-p
-bounds-calendar-p c = omega (arith, at_most c.loop-i.invariant.1)
-
-pub overflow_cast-slots : goal.overflow_cast-slots
-overflow_cast-slots c = omega arith
+bounds-calendar-p c = omega (arith, at_most c.loop-i.invariant)
 
 pub bounds-slots-count : goal.bounds-slots-count
-bounds-slots-count c = omega (arith, count_most c.loop-i.invariant.1)
+bounds-slots-count c = omega (arith, count_most c.loop-i.invariant)
 
 pub overflow_add-count : goal.overflow_add-count
-overflow_add-count c = omega (arith, count_most c.loop-i.invariant.1)
+overflow_add-count c = omega (arith, count_most c.loop-i.invariant)
 
 pub next_position-p-requires : goal.next_position-p-requires
-next_position-p-requires c = at_most c.loop-i.invariant.1
-
-pub overflow_add-i : goal.overflow_add-i
-overflow_add-i c = omega arith
-
-pub loop-i-smaller : goal.loop-i-smaller
-loop-i-smaller c = omega arith
+next_position-p-requires c = at_most c.loop-i.invariant
 
 pub loop-i-preserved : goal.loop-i-preserved
 loop-i-preserved c =
     let l = c.loop-i in
     let a = c.args in
-    let sized : length a.calendar ≡ 24 = search rules in (
-      omega arith,
-      elim c.if-calendar-p.branch [
-        | then-calendar-p w ↦ free_more l.invariant.1 sized c.next_position-p.ensures (omega arith) w.if-calendar-p.true w.slots-is w.count-is
-        | else-calendar-p w ↦ owned-more l.invariant.1 sized c.next_position-p.ensures w.if-calendar-p.false w.slots-is w.count-is
-      ],
-    )
+    let sized : length a.calendar ≡ 24 = search rules in
+    elim c.if-calendar-p.branch [
+      | then-calendar-p w ↦ free_more l.invariant sized c.next_position-p.ensures (omega arith) w.if-calendar-p.true w.slots-is w.count-is
+      | else-calendar-p w ↦ owned-more l.invariant sized c.next_position-p.ensures w.if-calendar-p.false w.slots-is w.count-is
+    ]
 
 pub returns : goal.returns
-returns c = all_collected c.loop-i.invariant.1 (omega arith)
+returns c = all_collected c.loop-i.invariant (omega arith)

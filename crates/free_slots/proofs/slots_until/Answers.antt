@@ -25,8 +25,8 @@ pub nonzero_rem-last : goal.nonzero_rem-last
 nonzero_rem-last c =
     count-some c.args.c c.requires c.free_slots-free.ensures
 
-pub bounds-slots-before : goal.bounds-slots-before
-bounds-slots-before c =
+pub bounds-free-before : goal.bounds-free-before
+bounds-free-before c =
     let k = c.args.c in
     nth_within k c.requires c.free_slots-free.ensures _
 

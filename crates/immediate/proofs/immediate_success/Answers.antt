@@ -4,6 +4,7 @@ use mathlib.Core.Path.{◌≡◌, refl, sym, ◌∙◌}
 use mathlib.Core.Bool.{Bool, true, false, not, false≢true}
 use mathlib.Core.List.{List}
 use native.Mathlib.Omega.{arith}
+use borrow.Author.Tests.{ne_eqb}
 use lib.Dec.{eqb}
 use lib.ListN.{take}
 use Rattle.minislot.specs.declared.Feedback.{Feedback}
@@ -35,18 +36,18 @@ counted false row e n = absurd (false≢true (sym e))
 pub returns-then-not-opened : goal.returns-then-not-opened
 returns-then-not-opened c = shut c.args.opened (take c.args.m (feedback_in c.args.row)) c.if-not-opened.true-raw
 
-pub returns-then-brought-ne0 : goal.returns-then-brought-ne0
-returns-then-brought-ne0 c =
+pub returns-else-brought-eq0 : goal.returns-else-brought-eq0
+returns-else-brought-eq0 c =
     let a = c.args in
     let row = take a.m (feedback_in a.row) in
     let brought : c.queue_row-brought.result.resolution ≡ collides row = rw c.queue_row-brought.ensures (collides_are row) in
-    sym (never-beside a.opened row (λ e. omega (arith, brought, c.if-brought-ne0.true)))
+    rw (ne_eqb _ _ c.if-brought-eq0.false) (sym (never-beside a.opened row (λ e. omega (arith, brought, c.if-brought-eq0.false))))
 
-pub returns : goal.returns
-returns c =
+pub returns-then-brought-eq0 : goal.returns-then-brought-eq0
+returns-then-brought-eq0 c =
     let a = c.args in
     let row = take a.m (feedback_in a.row) in
     let counts = c.queue_row-brought.ensures in
     let brought : c.queue_row-brought.result.resolution ≡ collides row = rw counts (collides_are row) in
-    let none-met : collides row ≡ 0 = omega (arith, brought, c.if-brought-ne0.false) in
+    let none-met : collides row ≡ 0 = omega (arith, brought, c.if-brought-eq0.true) in
     rw (counts, shorts_are row) (counted a.opened row c.if-not-opened.false-raw none-met)

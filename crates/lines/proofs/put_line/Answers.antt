@@ -41,8 +41,8 @@ returns-then-has_room c =
     let all_told = put_whole (rw line-halves at (and_then first second)) (rw e (sym c.has_room.ensures ∙ c.if-has_room.true)) in
     record { buffer = all_told.0; reached = all_told.1 }
 
-pub returns : goal.returns
-returns c =
+pub returns-else-has_room : goal.returns-else-has_room
+returns-else-has_room c =
     let a = c.args in
     let e : length (line_of a.slot a.group a.turn a.urgent a.long a.resolution)
     ≡ c.digits-a.result + c.digits-b.result + c.digits-c.result + c.digits-d.result + c.digits-e.result + 8

@@ -1,34 +1,30 @@
--- `put_messages` meets its contract. The loop's invariant: with the lines to come put from where it stands, buffer and place are what they are to be.
--- The measure is how many stations are to come. Assumes nothing.
-use mathlib.Core.Path.{◌≡◌}
-use Prim.Native.Nat.{◌<◌, min}
+-- `put_messages` meets its contract, station by station. Assumes nothing.
+use mathlib.Core.Path.{◌≡◌, ap}
 use native.Mathlib.Omega.{arith}
 use borrow.Author.Rules.{rules}
-use lib.ListN.{length}
+use lib.ListN.{length, take, drop_of_length-le}
+use Rattle.std.specs.List.{flat_map}
+use Rattle.listlaws.proofs.Beyond.{take-most}
 use Rattle.programs.proofs.LineRuns.{run_none, run-whole}
 use Rattle.message_lines.specs.MessageLines.{message_lines}
-use Rattle.message_lines.proofs.MessageRuns.{run-station, no-station}
+use Rattle.message_lines.proofs.MessageRuns.{run-station}
 use Rattle.message_lines.proofs.put_messages.Goals as goal
 
-pub loop-i-init : goal.loop-i-init
-loop-i-init c =
-    let n : length c.args.stations ≡ 65 = search rules in
-    (omega arith, c.least-end.ensures, n, run_none _ _ _)
-
-pub loop-i-preserved : goal.loop-i-preserved
-loop-i-preserved c =
-    let l = c.loop-i in
+pub loop-s-init : goal.loop-s-init
+loop-s-init c =
     let a = c.args in
-    let h : l.i < min a.count 65 = omega arith in (
-      omega arith,
-      l.invariant.1,
-      l.invariant.2,
-      run-station (message_lines a.call) a.count a.stations l.invariant.2 l.i _ h l.invariant.3 (c.put_station-to.ensures.buffer, c.put_station-to.ensures.reached),
-    )
+    let n : length a.stations ≡ 65 = search rules in
+    rw (c.least.ensures, take-most a.count 65 a.stations n) (run_none _ _ _)
+
+pub loop-s-preserved : goal.loop-s-preserved
+loop-s-preserved c =
+    let l = c.loop-s in
+    let a = c.args in
+    run-station (message_lines a.call) (take c.least.result a.stations) l.s-index _ (omega arith) l.invariant (c.put_station-to.ensures.buffer, c.put_station-to.ensures.reached)
 
 pub returns : goal.returns
 returns c =
-    let l = c.loop-i in
+    let l = c.loop-s in
     let a = c.args in
-    let all_told = run-whole l.invariant.3 (no-station (message_lines a.call) a.count a.stations l.invariant.2 l.i (omega arith)) in
+    let all_told = run-whole l.invariant (ap (flat_map (message_lines a.call)) (drop_of_length-le (take c.least.result a.stations) (omega arith))) in
     record { buffer = all_told.0; reached = all_told.1 }

@@ -21,7 +21,7 @@ use Rattle.newcomers.proofs.landings.Goals as goal
 
 pub loop-j-init : goal.loop-j-init
 unfolding queued_row
-loop-j-init c = (omega arith, refl, landing_none c.args.success c.args.before)
+loop-j-init c = (refl, landing_none c.args.success c.args.before)
 
 pub bounds-row-j : goal.bounds-row-j
 bounds-row-j c = omega (arith, c.held-n.ensures)
@@ -32,7 +32,7 @@ land-landing-requires c =
     let l = c.loop-j in
     let w : length a.row ≡ 8 = search rules in
     let h : l.j < length (first a.m a.row) = omega (arith, first-length a.m a.row, c.held-n.ensures) in
-    subst (λ (x : Places). MinislotFits a.success x (get_or a.row l.j blank).feedback) (sym l.invariant.1)
+    subst (λ (x : Places). MinislotFits a.success x (get_or a.row l.j blank).feedback) (sym l.invariant.0)
     (fits-at a.success a.before a.m l.j a.row h c.requires)
 
 pub offset_bounds-landed-j : goal.offset_bounds-landed-j
@@ -47,7 +47,7 @@ queue-p-requires c =
     let l = c.loop-j in
     let w : length a.row ≡ 8 = search rules in
     let h : l.j < length (first a.m a.row) = omega (arith, first-length a.m a.row, c.held-n.ensures) in
-    subst (Within 70000) (sym l.invariant.1)
+    subst (Within 70000) (sym l.invariant.0)
     (narrow a.success (queued_row a.success a.before (take l.j (first a.m a.row))) (get_or a.row l.j blank).feedback (fits-at a.success a.before a.m l.j a.row h c.requires).0)
 
 pub loop-j-preserved : goal.loop-j-preserved
@@ -59,9 +59,8 @@ loop-j-preserved c =
     let w : length a.row ≡ 8 = search rules in
     let h : l.j < length row = omega (arith, first-length a.m a.row, c.held-n.ensures) in
     let f = feedback-at a.m l.j a.row (omega (arith, c.held-n.ensures)) in (
-      omega arith,
-      c.queue-p.ensures.value ∙ rw (l.invariant.1, ← f, add-one) (fold_more (queued a.success) a.before row l.j Empty h),
-      rw (c.land-landing.ensures, l.invariant.2, l.invariant.1, ← f, add-one) (landing_more a.success a.before row 8 l.j h (omega arith)),
+      c.queue-p.ensures.value ∙ rw (l.invariant.0, ← f, add-one) (fold_more (queued a.success) a.before row l.j Empty h),
+      rw (c.land-landing.ensures, l.invariant.1, l.invariant.0, ← f, add-one) (landing_more a.success a.before row 8 l.j h (omega arith)),
     )
 
 pub returns : goal.returns
@@ -70,4 +69,4 @@ returns c =
     let l = c.loop-j in
     let w : length a.row ≡ 8 = search rules in
     let h : length (first a.m a.row) ≤ l.j = omega (arith, first-length a.m a.row, c.held-n.ensures) in
-    l.invariant.2 ∙ ap (λ (r : List Feedback). landings_of a.success a.before r 8) (take_all l.j (first a.m a.row) h)
+    l.invariant.1 ∙ ap (λ (r : List Feedback). landings_of a.success a.before r 8) (take_all l.j (first a.m a.row) h)

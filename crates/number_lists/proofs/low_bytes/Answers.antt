@@ -1,5 +1,5 @@
 -- `low_bytes` meets its contract. The loop's invariant: with the bytes of the numbers to come stored from where it stands, the bytes are what they are to be.
--- The measure is how many numbers are to come. Assumes nothing.
+-- Assumes nothing.
 use mathlib.Core.Path.{◌≡◌, refl, ◌∙◌}
 use Prim.Native.Nat.{◌≤◌}
 use native.Mathlib.Omega.{arith}

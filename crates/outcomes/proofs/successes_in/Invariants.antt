@@ -1,13 +1,12 @@
--- `successes_in` goes from the last minislot to the first. Assumes nothing.
-use Rattle.rules.specs.Outcome.{successes}
-use Rattle.rows.specs.Row.{feedback_in}
-use lib.ListN.{drop, take}
-use Prim.Native.Nat.{◌+◌, ◌-◌, ◌≤◌, min}
+-- `successes_in` counts one minislot after the other: the count, and that of what is left of the row, is the row's. Assumes nothing.
 use mathlib.Core.Path.{◌≡◌}
+use Prim.Native.Nat.{◌+◌, ◌≤◌}
+use lib.ListN.{drop}
+use Rattle.rows.specs.Row.{feedback_in}
+use Rattle.rules.specs.Outcome.{successes}
 use Rattle.outcomes.proofs.successes_in.Given as goal
 
-abbrev pub invariant-loop-j : goal.invariant-loop-j
-invariant-loop-j l = (l.j ≤ min l.m 8) × (l.total ≡ successes l.success (drop l.j (take l.m (feedback_in l.row)))) × (l.total + l.j ≤ min l.m 8)
-
-abbrev pub decreases-loop-j : goal.decreases-loop-j
-decreases-loop-j l = l.j
+abbrev pub invariant-loop-minislot : goal.invariant-loop-minislot
+invariant-loop-minislot l =
+    (l.total + successes l.success (drop l.minislot-index (feedback_in l.minislot-items)) ≡ successes l.success (feedback_in l.minislot-items))
+    × (l.total ≤ l.minislot-index)

@@ -3,16 +3,15 @@
 -- Assumes nothing.
 use mathlib.Core.Path.{◌≡◌}
 use mathlib.Core.List.{foldl}
-use Prim.Native.Nat.{◌+◌, ◌*◌, ◌-◌, ◌≤◌}
+use Prim.Native.Nat.{◌+◌, ◌*◌, ◌≤◌}
 use lib.ListN.{take}
 use Rattle.rows.specs.Row.{feedback_in}
 use Rattle.rules.specs.Queueing.{queued}
 use Rattle.queueing.proofs.queue_row.Given as goal
 
-abbrev pub invariant-loop-j : goal.invariant-loop-j
-invariant-loop-j l =
-    (l.j ≤ l.n) × (l.p ≡ foldl (queued l.success) l.initial.p (take l.j (feedback_in l.row)))
-    × (l.p.urgent ≤ l.initial.p.urgent + l.j) × (l.p.long ≤ l.initial.p.long + 255 * l.j) × (l.p.resolution ≤ l.initial.p.resolution + l.j)
-
-abbrev pub decreases-loop-j : goal.decreases-loop-j
-decreases-loop-j l = l.n - l.j
+abbrev pub invariant-loop-minislot : goal.invariant-loop-minislot
+invariant-loop-minislot l =
+    (l.p ≡ foldl (queued l.success) l.initial.p (take l.minislot-index (feedback_in l.minislot-items)))
+    × (l.p.urgent ≤ l.initial.p.urgent + l.minislot-index)
+    × (l.p.long ≤ l.initial.p.long + 255 * l.minislot-index)
+    × (l.p.resolution ≤ l.initial.p.resolution + l.minislot-index)

@@ -1,5 +1,6 @@
 -- `queue_single` queues a Single by its count and whether success is immediate. Assumes nothing.
 use native.Mathlib.Omega.{arith}
+use borrow.Author.Rules.{rules}
 use borrow.Author.Tests.{eq-eqb, ne_eqb}
 use Rattle.queueing.proofs.queue_single.Goals as goal
 
@@ -17,6 +18,6 @@ returns-then-count-eq1 c = record {
 
 pub returns : goal.returns
 returns c = record {
-  value = rw (ne_eqb _ _ c.if-count-eq1.false);
+  value = rw (ne_eqb _ _ c.if-count-eq1.false) (search rules);
   grown = record { urgent = omega arith; long = omega arith; resolution = omega arith };
 }

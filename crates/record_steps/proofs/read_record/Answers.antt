@@ -12,16 +12,16 @@ pub returns-then-f-gt1 : goal.returns-then-f-gt1
 unfolding follow_record record_number_of row_step
 returns-then-f-gt1 c = rw (lt-ltb _ _ c.if-f-gt1.true) c.row.ensures
 
-pub returns-in-Broken : goal.returns-in-Broken
+pub returns-in-None : goal.returns-in-None
 unfolding follow_record record_number_of first_step
-returns-in-Broken c =
+returns-in-None c =
     let a = c.args in
     rw (le-ltb _ _ c.if-f-gt1.false)
-    (c.refused.ensures ∙ first-broken a.f a.bytes.now _ c.first_fields-first.ensures.first c.in-Broken.is)
+    (c.refused.ensures ∙ first-broken a.f a.bytes.now _ c.first_fields.ensures.first c.in-None.is)
 
-pub returns-in-Numbers : goal.returns-in-Numbers
+pub returns-in-Some : goal.returns-in-Some
 unfolding follow_record record_number_of first_step
-returns-in-Numbers c =
+returns-in-Some c =
     let a = c.args in
     rw (le-ltb _ _ c.if-f-gt1.false)
-    (c.start_with.ensures ∙ first-numbers a.f a.bytes.now _ c.first_fields-first.ensures.first _ _ c.in-Numbers.is)
+    (c.start_with.ensures ∙ first-numbers a.f a.bytes.now _ c.first_fields.ensures.first _ c.in-Some.is)

@@ -1,8 +1,6 @@
--- `cut_record` meets its contract. The loop's invariant: what the record does from the place reached, with the room left, is what it does from its start.
--- The measure is what is left of the bytes. Assumes nothing.
+-- `cut_record` meets its contract: each way of its loop is a law of `Cuts`. Assumes nothing.
 use borrow.Author.Rules.{rules}
 use mathlib.Core.Path.{sym, ◌∙◌}
-use Prim.Native.Nat.{◌-◌}
 use native.Mathlib.Omega.{arith}
 use Rattle.records.proofs.CutAnswers.{cut-answered}
 use Rattle.records.proofs.Cuts.{begins-none, begins-some, goes_last, goes_open, goes_return, goes-full, goes_feed, goes-more}
@@ -23,54 +21,39 @@ returns-then-bytes-start c =
 pub loop-at-init : goal.loop-at-init
 loop-at-init c =
     let a = c.args in
-    (search rules, search rules, begins-some a.ended a.start _ _ c.if-bytes-start.false)
-
-pub bounds-bytes-at : goal.bounds-bytes-at
-bounds-bytes-at c = omega arith
-
-pub after_return-requires : goal.after_return-requires
-after_return-requires c = omega arith
+    begins-some a.ended a.start _ _ c.if-bytes-start.false
 
 pub returns-then-b-eq-CR : goal.returns-then-b-eq-CR
 returns-then-b-eq-CR c =
     let all_told = let l = c.loop-at in
-    cut-answered _ _ _ _ _ (c.after_return.ensures ∙ sym (goes_return _ l.at _ l.room (search rules) (search rules)) ∙ l.invariant.2) in
+    cut-answered _ _ _ _ _ (c.after_return.ensures ∙ sym (goes_return _ l.at _ l.room (search rules) (search rules)) ∙ l.invariant) in
     record { cut = all_told.0; number = all_told.1 }
 
 pub returns-then-room-eq0 : goal.returns-then-room-eq0
 returns-then-room-eq0 c =
     let all_told = let l = c.loop-at in
-    cut-answered _ _ _ _ _ (sym (goes-full _ l.at _ l.room (search rules) (search rules) (search rules)) ∙ l.invariant.2) in
+    cut-answered _ _ _ _ _ (sym (goes-full _ l.at _ l.room (search rules) (search rules) (search rules)) ∙ l.invariant) in
     record { cut = all_told.0; number = all_told.1 }
 
 pub returns-then-b-eq-LF : goal.returns-then-b-eq-LF
 returns-then-b-eq-LF c =
     let all_told = let l = c.loop-at in
-    cut-answered _ _ _ _ _ (sym (goes_feed _ l.at _ l.room (search rules) (search rules) (search rules)) ∙ l.invariant.2) in
+    cut-answered _ _ _ _ _ (sym (goes_feed _ l.at _ l.room (search rules) (search rules) (search rules)) ∙ l.invariant) in
     record { cut = all_told.0; number = all_told.1 }
-
-pub overflow_sub-room : goal.overflow_sub-room
-overflow_sub-room c = omega arith
-
-pub overflow_add-at : goal.overflow_add-at
-overflow_add-at c = omega arith
-
-pub loop-at-smaller : goal.loop-at-smaller
-loop-at-smaller c = omega arith
 
 pub loop-at-preserved : goal.loop-at-preserved
 loop-at-preserved c =
     let l = c.loop-at in
-    (omega arith, omega arith, sym (goes-more _ l.at _ l.room (search rules) (search rules) (search rules) (search rules)) ∙ l.invariant.2)
+    sym (goes-more _ l.at _ l.room (search rules) (search rules) (search rules) (search rules)) ∙ l.invariant
 
 pub returns-then-ended-2 : goal.returns-then-ended-2
 returns-then-ended-2 c =
     let all_told = let l = c.loop-at in
-    cut-answered _ _ _ _ _ (sym (goes_last _ l.at _ l.room (search rules) (search rules)) ∙ l.invariant.2) in
+    cut-answered _ _ _ _ _ (sym (goes_last _ l.at _ l.room (omega arith) (search rules)) ∙ l.invariant) in
     record { cut = all_told.0; number = all_told.1 }
 
 pub returns : goal.returns
 returns c =
     let all_told = let l = c.loop-at in
-    cut-answered _ _ _ _ _ (sym (goes_open _ l.at _ l.room (search rules) (search rules)) ∙ l.invariant.2) in
+    cut-answered _ _ _ _ _ (sym (goes_open _ l.at _ l.room (search rules) (search rules)) ∙ l.invariant) in
     record { cut = all_told.0; number = all_told.1 }

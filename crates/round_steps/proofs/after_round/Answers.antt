@@ -6,8 +6,8 @@ pub returns-then-needs_bytes : goal.returns-then-needs_bytes
 returns-then-needs_bytes c =
     let missing = sym c.needs_bytes.ensures ∙ c.if-needs_bytes.true in
     let wanted = c.wants_after-wants.ensures in record {
-      input = rw missing c.keep_rest-kept.ensures.buffer;
-      run = rw (missing, wanted, c.keep_rest-kept.ensures.count);
+      input = rw missing c.keep_rest.ensures.buffer;
+      run = rw (missing, wanted, c.keep_rest.ensures.count);
     }
 
 pub returns : goal.returns

@@ -8,12 +8,12 @@ use Rattle.row_fields.specs.Row.{row_of}
 use Rattle.row_fields.proofs.Rows.{go_row}
 use Rattle.row_fields.proofs.row_fields.Given as goal
 
-abbrev pub invariant-loop-word : goal.invariant-loop-word
-invariant-loop-word l =
+abbrev pub invariant-loop-pair : goal.invariant-loop-pair
+invariant-loop-pair l =
     (l.pairs * 2 + length (parts (drop l.at l.bytes)) ≤ 129)
     × (length l.words ≡ 8)
     × (length l.counts ≡ 8)
     × (go_row l.pairs l.words l.counts (parts (drop l.at l.bytes)) ≡ row_of l.bytes)
 
-abbrev pub decreases-loop-word : goal.decreases-loop-word
-decreases-loop-word l = length (parts (drop l.at l.bytes))
+abbrev pub decreases-loop-pair : goal.decreases-loop-pair
+decreases-loop-pair l = length (parts (drop l.at l.bytes))

@@ -16,7 +16,7 @@ use Rattle.row_reading.proofs.read_minislots.Goals as goal
 
 pub loop-j-init : goal.loop-j-init
 unfolding feedbacks padded
-loop-j-init c = (omega arith, refl, refl)
+loop-j-init c = (refl, refl)
 
 pub returns-in-Refused : goal.returns-in-Refused
 returns-in-Refused c =
@@ -25,7 +25,7 @@ returns-in-Refused c =
     let here = readings-at a.args.words.now a.args.counts.now l.j (Refused 0) (omega arith) (omega arith)
     ∙ sym c.read.ensures.0 ∙ c.in-Refused.is in
     let first = refused-first (readings a.args.words.now a.args.counts.now) l.j c.in-Refused.number (Refused 0)
-    (omega (arith, readings-length a.args.words.now a.args.counts.now (omega arith))) here l.invariant.1 in
+    (omega (arith, readings-length a.args.words.now a.args.counts.now (omega arith))) here l.invariant.0 in
     c.refused.ensures
     ∙ refused-answer a.args.words.now a.args.counts.now c.in-Refused.number
     (refusal-number _ _ _ (sym c.read.ensures.0 ∙ c.in-Refused.is)).low first
@@ -40,9 +40,8 @@ loop-j-preserved c =
     let here : get_or rs l.j (Refused 0) ≡ Heard f =
     readings-at a.args.words.now a.args.counts.now l.j (Refused 0) (omega arith) (omega arith)
     ∙ sym c.read.ensures.0 ∙ c.in-Heard.is in (
-      omega arith,
-      rw add-one (heard-count rs l.j f (Refused 0) n here l.invariant.1),
-      rw (l.invariant.2, add-one) (sym (heard-padded rs l.j f (Refused 0) n here 8 l.invariant.1 (omega arith))),
+      rw add-one (heard-count rs l.j f (Refused 0) n here l.invariant.0),
+      rw (l.invariant.1, add-one) (sym (heard-padded rs l.j f (Refused 0) n here 8 l.invariant.0 (omega arith))),
     )
 
 pub returns : goal.returns
@@ -52,8 +51,8 @@ returns c =
     let counts = c.args.counts.now in
     let e : length (readings words counts) ≡ l.j = readings-length words counts (omega arith) ∙ omega arith in
     let all : take l.j (readings words counts) ≡ readings words counts = rw (← e) (take-length (readings words counts)) in
-    let heard : length (feedbacks (readings words counts)) ≡ l.j = rw all at l.invariant.1 in
-    let array : l.minislots ≡ padded 8 (feedbacks (readings words counts)) = rw all at l.invariant.2 in
+    let heard : length (feedbacks (readings words counts)) ≡ l.j = rw all at l.invariant.0 in
+    let array : l.minislots ≡ padded 8 (feedbacks (readings words counts)) = rw all at l.invariant.1 in
     let weighed : c.weigh.result ≡ weight (feedbacks (readings words counts)) =
     c.weigh.ensures ∙ rw array (weight-padded 8 (feedbacks (readings words counts)) (omega (arith, heard))) in
     rw (weighed, array) (heard-answer words counts (heard ∙ sym e))

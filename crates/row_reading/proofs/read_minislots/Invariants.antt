@@ -2,16 +2,11 @@
 -- refused one gives its number, and after the last the answer is the whole row's, with the weight of the array.
 -- Assumes nothing.
 use mathlib.Core.Path.{◌≡◌}
-use Prim.Native.Nat.{◌-◌, ◌≤◌}
 use lib.ListN.{length, take}
 use Rattle.rows.specs.Row.{readings, feedbacks, padded}
 use Rattle.row_reading.proofs.read_minislots.Given as goal
 
 abbrev pub invariant-loop-j : goal.invariant-loop-j
 invariant-loop-j l =
-    (l.j ≤ l.n)
-    × (length (feedbacks (take l.j (readings l.words l.counts))) ≡ l.j)
+    (length (feedbacks (take l.j (readings l.words l.counts))) ≡ l.j)
     × (l.minislots ≡ padded 8 (feedbacks (take l.j (readings l.words l.counts))))
-
-abbrev pub decreases-loop-j : goal.decreases-loop-j
-decreases-loop-j l = l.n - l.j

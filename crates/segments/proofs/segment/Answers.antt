@@ -72,5 +72,5 @@ pub returns : goal.returns
 unfolding Answer
 returns c =
     let t = taken-from _ _ (sym c.slots.ensures.answer ∙ c.in-Slots.is) in
-    let told = given _ _ t.0 (omega arith, omega (arith, t)) c.least-end.result (omega arith) in
+    let told = given _ _ t.0 (omega arith, omega (arith, t)) c.min-end.result (omega arith) in
     record { part = told.0; told = told.1 }

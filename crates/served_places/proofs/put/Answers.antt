@@ -1,5 +1,4 @@
--- `put` meets its contract. The loop's invariant: with the places to come put from where it stands, the list is what it is to be. The measure
--- is how many are to come. Assumes nothing.
+-- `put` meets its contract. The loop's invariant: with the places to come put from where it stands, the list is what it is to be. Assumes nothing.
 use mathlib.Core.Path.{◌≡◌, refl, ap, ◌∙◌}
 use Prim.Native.Nat.{ℕ, ◌-◌, ◌<◌, min}
 use native.Mathlib.Omega.{arith}
@@ -13,7 +12,7 @@ loop-k-init c = (omega arith, refl, refl)
 pub loop-k-preserved : goal.loop-k-preserved
 loop-k-preserved c =
     let l = c.loop-k in
-    let e : l.k < c.least-end.result = c.loop-k-test.true in
+    let e : l.k < c.least-end.result = omega arith in
     (omega arith, rw length-set l.invariant.1, put_next _ l.served l.k _ e ∙ l.invariant.2)
 
 pub returns : goal.returns

@@ -1,5 +1,4 @@
--- `put` meets its contract. The loop's invariant: with the places to come put from where it stands, the list is what it is to be. The measure
--- is how many are to come. Assumes nothing.
+-- `put` meets its contract. The loop's invariant: with the places to come put from where it stands, the list is what it is to be. Assumes nothing.
 use mathlib.Core.Path.{◌≡◌}
 use Prim.Native.Nat.{◌-◌, ◌≤◌}
 use lib.ListN.{length}
@@ -8,6 +7,3 @@ use Rattle.served_places.proofs.put.Given as goal
 
 abbrev pub invariant-loop-k : goal.invariant-loop-k
 invariant-loop-k l = (l.first ≤ l.k) × (length l.served ≡ length l.initial.served) × (put_of l.served l.k (l.end - l.k) l.index ≡ put_of l.initial.served l.first (l.end - l.first) l.index)
-
-abbrev pub decreases-loop-k : goal.decreases-loop-k
-decreases-loop-k l = l.end - l.k

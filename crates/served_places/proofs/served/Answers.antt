@@ -1,5 +1,4 @@
--- `served` meets its contract. The loop's invariant: the list has what the first `i` stations put. The measure is how many are to come.
--- Assumes nothing.
+-- `served` meets its contract. The loop's invariant: the list has what the first `i` stations put. Assumes nothing.
 use mathlib.Core.Path.{◌≡◌, sym, ap, ◌∙◌}
 use mathlib.Core.List.{List, foldl}
 use Prim.Native.Nat.{ℕ}

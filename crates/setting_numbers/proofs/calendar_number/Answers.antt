@@ -23,14 +23,14 @@ returns-then-not-entries_on c =
     let full : length a.stations ≡ 64 = search rules in
     array_20 a.stations a.n a.wire a.entries full (sym c.has_stations.ensures ∙ c.if-not-has_stations.false) (sym c.sound.ensures ∙ c.if-not-sound.false) (sym c.entries_on.ensures ∙ c.if-not-entries_on.true)
 
-pub returns-then-not-some_free : goal.returns-then-not-some_free
-returns-then-not-some_free c =
+pub returns-else-some_free : goal.returns-else-some_free
+returns-else-some_free c =
     let a = c.args in
     let full : length a.stations ≡ 64 = search rules in
-    array_21 a.stations a.n a.wire a.entries full (sym c.has_stations.ensures ∙ c.if-not-has_stations.false) (sym c.sound.ensures ∙ c.if-not-sound.false) (sym c.entries_on.ensures ∙ c.if-not-entries_on.false) (sym c.some_free.ensures ∙ c.if-not-some_free.true)
+    array_21 a.stations a.n a.wire a.entries full (sym c.has_stations.ensures ∙ c.if-not-has_stations.false) (sym c.sound.ensures ∙ c.if-not-sound.false) (sym c.entries_on.ensures ∙ c.if-not-entries_on.false) (sym c.some_free.ensures ∙ c.if-some_free.false)
 
-pub returns : goal.returns
-returns c =
+pub returns-then-some_free : goal.returns-then-some_free
+returns-then-some_free c =
     let a = c.args in
     let full : length a.stations ≡ 64 = search rules in
-    array_0 a.stations a.n a.wire a.entries full (sym c.has_stations.ensures ∙ c.if-not-has_stations.false) (sym c.sound.ensures ∙ c.if-not-sound.false) (sym c.entries_on.ensures ∙ c.if-not-entries_on.false) (sym c.some_free.ensures ∙ c.if-not-some_free.false)
+    array_0 a.stations a.n a.wire a.entries full (sym c.has_stations.ensures ∙ c.if-not-has_stations.false) (sym c.sound.ensures ∙ c.if-not-sound.false) (sym c.entries_on.ensures ∙ c.if-not-entries_on.false) (sym c.some_free.ensures ∙ c.if-some_free.true)

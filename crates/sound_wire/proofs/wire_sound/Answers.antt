@@ -9,7 +9,7 @@ use native.Mathlib.Omega.{arith}
 use borrow.Author.Rules.{rules}
 use borrow.Author.Tests.{eq-eqb}
 use borrow.Author.Count.{below_more}
-use lib.ListN.{length, take, get_or}
+use lib.ListN.{length, get_or}
 use Rattle.listlaws.specs.Every.{every_from}
 use Rattle.listlaws.proofs.Table.{every_fails, every_holds}
 use Rattle.minislot.specs.declared.Minislot.{Minislot}
@@ -18,23 +18,21 @@ use Rattle.rules.specs.declared.TableMessage.{TableMessage}
 use Rattle.rules.specs.declared.WireRow.{WireRow}
 use Rattle.channel_rules.specs.Soundness.{same_minislot}
 use Rattle.asked_rows.specs.declared.WireRequest.{WireRequest}
-use Rattle.asked_rows.specs.declared.DrawnRequests.{DrawnRequests}
-use Rattle.asked_rows.specs.Asked.{no_request, requests_of, drawn_requests, carried_row}
+use Rattle.asked_rows.specs.Asked.{requests_of, carried_row}
 use Rattle.sound_wire.specs.Wire.{row_carries, wire_carries}
 use Rattle.drawing.proofs.Agreeing.{every-same}
-use Rattle.drawing.proofs.Filling.{used}
 use Rattle.sound_wire.proofs.Carrying.{row_carries_lem}
 use Rattle.sound_wire.proofs.wire_sound.Goals as goal
 use Rattle.sound_wire.proofs.wire_sound.Invariants.{empty_row, at}
 
 -- rows compared with those that the requests drawn out of the messages make are compared with the clause's
-wire_drawn : (m : List TableMessage) (r : DrawnRequests) → r ≡ drawn_requests (requests_of m) → (wire : List WireRow) → length wire ≡ 8
-    → every_from (at (take r.count r.list)) 0 wire ≡ wire_carries m wire
+wire_drawn : (m : List TableMessage) (asked : List WireRequest) → asked ≡ requests_of m → (wire : List WireRow) → length wire ≡ 8
+    → every_from (at asked) 0 wire ≡ wire_carries m wire
 unfolding wire_carries
-wire_drawn m r e wire h =
+wire_drawn m asked e wire h =
     rw (eq-eqb (length wire) 8 h)
-    (every-same (at (take r.count r.list)) (λ (i : ℕ) (row : WireRow). row_carries m (suc i) row) 0 wire
-    (λ i row q. ap (λ (l : List WireRequest). at l i row) (used 128 no_request r.list r.count (requests_of m) (ap (λ (x : DrawnRequests). x.list) e) (ap (λ (x : DrawnRequests). x.count) e)) ∙ row_carries_lem m (suc i) row))
+    (every-same (at asked) (λ (i : ℕ) (row : WireRow). row_carries m (suc i) row) 0 wire
+    (λ i row q. ap (λ (l : List WireRequest). at l i row) e ∙ row_carries_lem m (suc i) row))
 
 -- one row compared
 compared : (requests : List WireRequest) (i : ℕ) (row : WireRow) (b : List Minislot) (x : Bool) → b ≡ carried_row (i + 1) requests
@@ -43,32 +41,25 @@ compared requests i row b x f e =
     rw (eq-eqb (length row.minislots) 8 e.0)
     (sym (e.1 ∙ ap (λ (y : List Minislot). every_from (λ j slot. same_minislot slot (get_or y j silent)) 0 row.minislots) (rw add-one at f)))
 
-pub loop-g-init : goal.loop-g-init
-loop-g-init c = (omega arith, λ k h. absurd (omega arith))
-
 pub returns-then-not-same_minislots : goal.returns-then-not-same_minislots
 returns-then-not-same_minislots c =
     let l = c.loop-g in
     let a = c.args in
     let r = c.requests-asked in
-    let v : length a.wire ≡ 8 = search rules in
-    let s = take r.result.count r.result.list in
-    let e = compared s l.g (get_or a.wire l.g empty_row) c.row_of-expected.result c.same_minislots.result c.row_of-expected.ensures c.same_minislots.ensures in
-    sym (every_fails (at s) empty_row a.wire l.g (omega arith) (e ∙ c.if-not-same_minislots.true)) ∙ wire_drawn (take a.count a.messages) r.result r.ensures a.wire v
+    let v : length a.wire.now ≡ 8 = search rules in
+    let e = compared r.result.items l.g (get_or a.wire.now l.g empty_row) c.row_of-expected.result c.same_minislots.result (c.row_of-expected.ensures ∙ ap (carried_row (l.g + 1)) c.as_slice.ensures.value) c.same_minislots.ensures in
+    sym (every_fails (at r.result.items) empty_row a.wire.now l.g (omega arith) (e ∙ c.if-not-same_minislots.true)) ∙ wire_drawn a.messages.now.items r.result.items r.ensures a.wire.now v
 
 pub loop-g-preserved : goal.loop-g-preserved
 loop-g-preserved c =
     let l = c.loop-g in
-    let a = c.args in
-    let r = c.requests-asked in
-    let s = take r.result.count r.result.list in
-    let e = compared s l.g (get_or a.wire l.g empty_row) c.row_of-expected.result c.same_minislots.result c.row_of-expected.ensures c.same_minislots.ensures in
-    (omega arith, below_more _ _ l.invariant.1 (e ∙ c.if-not-same_minislots.false))
+    let e = compared c.requests-asked.result.items l.g (get_or c.args.wire.now l.g empty_row) c.row_of-expected.result c.same_minislots.result (c.row_of-expected.ensures ∙ ap (carried_row (l.g + 1)) c.as_slice.ensures.value) c.same_minislots.ensures in
+    below_more _ _ l.invariant (e ∙ c.if-not-same_minislots.false)
 
 pub returns : goal.returns
 returns c =
     let l = c.loop-g in
     let a = c.args in
     let r = c.requests-asked in
-    let v : length a.wire ≡ 8 = search rules in
-    sym (every_holds (at (take r.result.count r.result.list)) empty_row a.wire (λ k h. l.invariant.1 k (omega arith))) ∙ wire_drawn (take a.count a.messages) r.result r.ensures a.wire v
+    let v : length a.wire.now ≡ 8 = search rules in
+    sym (every_holds (at r.result.items) empty_row a.wire.now (λ k h. l.invariant k (omega arith))) ∙ wire_drawn a.messages.now.items r.result.items r.ensures a.wire.now v

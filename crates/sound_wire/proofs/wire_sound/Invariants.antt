@@ -3,8 +3,8 @@
 use mathlib.Core.Path.{◌≡◌}
 use mathlib.Core.Bool.{Bool, true}
 use mathlib.Core.List.{List, []}
-use Prim.Native.Nat.{ℕ, suc, ◌-◌, ◌≤◌, ◌<◌}
-use lib.ListN.{take, get_or}
+use Prim.Native.Nat.{ℕ, suc, ◌<◌}
+use lib.ListN.{get_or}
 use Rattle.rules.specs.declared.WireRow.{WireRow}
 use Rattle.asked_rows.specs.declared.WireRequest.{WireRequest}
 use Rattle.sound_wire.proofs.Carrying.{row_like}
@@ -17,7 +17,4 @@ abbrev pub at : List WireRequest → ℕ → WireRow → Bool
 at requests i row = row_like requests (suc i) row
 
 abbrev pub invariant-loop-g : goal.invariant-loop-g
-invariant-loop-g l = (l.g ≤ 8) × ((k : ℕ) → k < l.g → at (take l.n l.list) k (get_or l.wire k empty_row) ≡ true)
-
-abbrev pub decreases-loop-g : goal.decreases-loop-g
-decreases-loop-g l = 8 - l.g
+invariant-loop-g l = (k : ℕ) → k < l.g → at l.asked.items k (get_or l.wire k empty_row) ≡ true

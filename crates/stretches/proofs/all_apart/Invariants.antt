@@ -1,13 +1,12 @@
 -- `all_apart` tests each stretch against those behind it: what is left of the stretches tests as all of them. Assumes nothing.
 use mathlib.Core.Path.{◌≡◌}
-use Prim.Native.Nat.{◌-◌, ◌≤◌}
-use lib.ListN.{length, drop}
+use lib.ListN.{length}
 use Rattle.listlaws.specs.Lists.{each_pair}
-use Rattle.stretches.specs.Stretches.{stretches, apart}
+use Rattle.stretches.specs.Stretches.{apart}
 use Rattle.stretches.proofs.all_apart.Given as goal
 
-abbrev pub invariant-loop-i : goal.invariant-loop-i
-invariant-loop-i l = (l.i ≤ l.n) × (l.n ≤ length l.firsts) × (l.n ≤ length l.lefts) × (each_pair apart (drop l.i (stretches l.firsts l.lefts)) ≡ each_pair apart (stretches l.firsts l.lefts))
+abbrev pub invariant-loop-first : goal.invariant-loop-first
+invariant-loop-first l = each_pair apart l.rest ≡ each_pair apart l.stretches
 
-abbrev pub decreases-loop-i : goal.decreases-loop-i
-decreases-loop-i l = l.n - l.i
+abbrev pub decreases-loop-first : goal.decreases-loop-first
+decreases-loop-first l = length l.rest

@@ -7,4 +7,4 @@ use Rattle.wire_hearing.proofs.read_group.Goals as goal
 pub returns : goal.returns
 returns c =
     let a = c.args in
-    c.read_wire_row.ensures ∙ ap (λ (r : WireRow). first_read a.c.minislots r.minislots) c.row_at-row.ensures
+    c.read_wire_row.ensures ∙ ap (λ (r : WireRow). first_read a.c.minislots r.minislots) c.row_at.ensures

@@ -3,10 +3,10 @@ use mathlib.Core.Path.{sym, ◌∙◌}
 use Rattle.write_fields.specs.WriteFields.{held_by}
 use Rattle.write_fields.proofs.commit_in.Goals as goal
 
-pub returns-in-Named : goal.returns-in-Named
+pub returns-in_err-read : goal.returns-in_err-read
 unfolding held_by
-returns-in-Named c = rw (sym c.which_fields-fields.ensures ∙ c.in-Named.is)
+returns-in_err-read c = c.from_residual.ensures ∙ rw (sym c.which_fields.ensures ∙ c.in_err-read.was)
 
-pub returns-in-Broken : goal.returns-in-Broken
+pub returns : goal.returns
 unfolding held_by
-returns-in-Broken c = rw (sym c.which_fields-fields.ensures ∙ c.in-Broken.is)
+returns c = rw (sym c.which_fields.ensures ∙ c.in_ok-read.was)

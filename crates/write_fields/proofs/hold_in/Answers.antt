@@ -3,10 +3,10 @@ use mathlib.Core.Path.{sym, ◌∙◌}
 use Rattle.write_fields.specs.WriteFields.{new_by}
 use Rattle.write_fields.proofs.hold_in.Goals as goal
 
-pub returns-in-Numbers : goal.returns-in-Numbers
+pub returns-in_err-read : goal.returns-in_err-read
 unfolding new_by
-returns-in-Numbers c = rw (sym c.offer_fields-fields.ensures ∙ c.in-Numbers.is)
+returns-in_err-read c = c.from_residual.ensures ∙ rw (sym c.offer_fields.ensures ∙ c.in_err-read.was)
 
-pub returns-in-Broken : goal.returns-in-Broken
+pub returns : goal.returns
 unfolding new_by
-returns-in-Broken c = rw (sym c.offer_fields-fields.ensures ∙ c.in-Broken.is)
+returns c = rw (sym c.offer_fields.ensures ∙ c.in_ok-read.was)

@@ -38,5 +38,5 @@ unfolding verdict_of verdict_by
 returns c =
     let a = c.args in
     let full : length a.stations ≡ 64 = search rules in
-    ap (λ (v : Verdict). v.number) c.judge-verdict.ensures
+    ap (λ (v : Verdict). v.number) c.judge.ensures
     ∙ array-takes a.stations a.n a.wire a.index a.w full (sym c.has_stations.ensures ∙ c.if-not-has_stations.false) c.position_of-k.result c.position_of-k.ensures (sym c.sound.ensures ∙ c.if-not-sound.false) (omega (arith, c.if-n-k.false))

@@ -3,16 +3,9 @@ use mathlib.Core.Path.{◌≡◌, sym, ◌∙◌}
 use native.Mathlib.Omega.{arith}
 use lib.ListN.{length}
 use borrow.Author.Rules.{rules}
-use borrow.Author.Tests.{ne_eqb}
 use Rattle.writes.specs.Written.{decided_of}
 use Rattle.write_numbers.proofs.Numbers.{passed-most, passed-found, passed-known, passed-takes}
 use Rattle.writes.proofs.write.Goals as goal
-
-pub returns-then-number-ne0 : goal.returns-then-number-ne0
-unfolding decided_of
-returns-then-number-ne0 c =
-    let k = c.write_number-number.result in
-    c.decline.ensures ∙ rw (← c.write_number-number.ensures, ne_eqb k 0 c.if-number-ne0.true)
 
 pub write_at-requires : goal.write_at-requires
 write_at-requires c =

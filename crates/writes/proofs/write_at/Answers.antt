@@ -11,6 +11,6 @@ pub returns : goal.returns
 unfolding verdict_of verdict_by with_of
 returns c =
     let a = c.args in
-    let total : c.judge-verdict.result.total ≡ writing_total_of (get_or a.stations a.k absent) a.w =
-    ap (λ (v : Verdict). v.total) c.judge-verdict.ensures ∙ rw c.requires.1 in
+    let total : c.judge-total.result.total ≡ writing_total_of (get_or a.stations a.k absent) a.w =
+    ap (λ (v : Verdict). v.total) c.judge-total.ensures ∙ rw c.requires.1 in
     rw (c.hold.ensures, c.rewrite.ensures, c.answer_to.ensures, total)
