@@ -1,30 +1,14 @@
 -- Places named twice or more: the test passes just if every place of the queue is; and the test from the last place down. Assumes nothing.
-use mathlib.Core.Path.{◌≡◌, refl, sym, ap, ◌∙◌}
-use mathlib.Core.Bool.{Bool, true, false, cond, and-eq-true_iff}
-use mathlib.Core.List.{List, [], ◌∷◌}
-use Prim.Native.Nat.{ℕ, zero, suc, ◌+◌, ◌-◌, ◌≤◌, ◌<◌}
+use mathlib.Core.Path.{◌≡◌, refl, ap}
+use mathlib.Core.Bool.{true, false, and-eq-true_iff}
+use mathlib.Core.List.{List}
+use Prim.Native.Nat.{ℕ, zero, suc, ◌-◌, ◌≤◌, ◌<◌}
 use native.Mathlib.Omega.{arith}
 use native.Mathlib.Decide.{dec_lt}
 use mathlib.Core.Logic.{by_cases}
 use borrow.Author.Tests.{leb-true, le-leb, lt-leb}
-use lib.ListN.{length}
-use Rattle.std.specs.List.{count_by, filter}
-use Rattle.std.proofs.lemmas.List.Sums.{length-filter}
-use Rattle.listlaws.specs.Lists.{count_of}
 use Rattle.places.proofs.Counting.{times}
 use Rattle.crowds.specs.Crowds.{named_twice, crowded}
-
--- the library's count, which goes by what is kept, is this one
-kept-count : (test : ℕ → Bool) (l : List ℕ) → length (filter test l) ≡ count_of test l
-kept-count test [] = refl
-kept-count test (x ∷ l) = go (test x) (kept-count test l)
-  where
-    go : (b : Bool) → length (filter test l) ≡ count_of test l → length (cond b (x ∷ filter test l) (filter test l)) ≡ cond b 1 0 + count_of test l
-    go true e = omega arith
-    go false e = omega arith
-
-pub count-is : (test : ℕ → Bool) (l : List ℕ) → count_by test l ≡ count_of test l
-count-is test l = sym (length-filter test l) ∙ kept-count test l
 
 pub two-or-more : (R : ℕ) (l : List ℕ) → crowded l R ≡ true → (i : ℕ) → i < R → 2 ≤ times (suc i) l
 two-or-more zero l e i h = absurd (omega arith)

@@ -7,6 +7,9 @@ ghost use Rattle.std.specs.Prelude.{◌≡◌, min};
 use arrayvec::ArrayVec;
 use rules::TableMessage;
 
+// The groups that a record of counters and the wire have room for.
+pub const MOST_GROUPS: usize = 8;
+
 // The messages of a table, and the places that they hold in a queue: two for each of 64 stations at most, in memory of that size.
 pub type Messages = ArrayVec<TableMessage, 128>;
 

@@ -76,11 +76,15 @@ fn is_other(number: u16) -> bool {
 }
 
 // How many numbers from the first to the last are no patterns, and how many of those the library gives no index.
-fn others(first: u16, last: u16) -> (usize, usize) {
-    let tried = (first..=last).filter(|number| is_other(*number)).count();
-    let right = (first..=last)
-        .filter(|number| is_other(*number) && indexing::index_of(*number) == 924)
-        .count();
+fn others(first: u16, last: u16) -> (u64, u64) {
+    let mut tried: u64 = 0;
+    let mut right: u64 = 0;
+    for number in first..=last {
+        if is_other(number) {
+            tried = tried.saturating_add(1);
+            right = right.saturating_add(u64::from(indexing::index_of(number) == 924));
+        }
+    }
     (tried, right)
 }
 

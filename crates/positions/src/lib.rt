@@ -19,7 +19,10 @@ fn first_of(stations: &[Station], index: u16) -> Option<usize>
 fn stands_at(stations: &[Station], index: u16) -> usize
     ensures { result ≡ position_of index stations.now }
 {
-    first_of(stations, index).unwrap_or(stations.len())
+    match first_of(stations, index) {
+        Some(i) => i,
+        None => stations.len(),
+    }
 }
 
 // How many of the first n stations stand before the first of an index; all of them if there is none.

@@ -1,7 +1,7 @@
 -- A record's end, at the place of the bytes that a loop has reached: one law for each way that the next byte, or the end, can go.
 -- Assumes nothing.
 use mathlib.Core.Bool.{Bool, true, false, cond}
-use mathlib.Core.Path.{◌≡◌, refl}
+use mathlib.Core.Path.{◌≡◌, refl, ap, ◌∙◌}
 use mathlib.Core.List.{List}
 use Prim.Native.Nat.{ℕ, zero, suc, ◌+◌, ◌-◌, ◌<◌, ◌≤◌}
 use native.Mathlib.Omega.{arith}
@@ -33,9 +33,13 @@ module _ (ended : Bool) (at : ℕ) (bytes : List ℕ) where
   unfolding cut_of begins
   begins-some longest h = rw (rest bytes at 0 h)
 
-  pub goes_last : (room : ℕ) → at ≡ length bytes → ended ≡ true → goes_on ended at room (drop at bytes) ≡ Record (length bytes) (length bytes)
+  pub goes_last : (room : ℕ) → length bytes ≤ at → ended ≡ true → goes_on ended at room (drop at bytes) ≡ Record at at
   unfolding goes_on
-  goes_last room h e = let over : length bytes ≤ at = omega arith in rw (drop_of_length-le bytes over, e, h)
+  goes_last room h e = rw (drop_of_length-le bytes h, e)
+
+  -- where the loop over the bytes stops
+  pub ends_last : (room : ℕ) → at ≡ length bytes → ended ≡ true → goes_on ended at room (drop at bytes) ≡ Record (length bytes) (length bytes)
+  ends_last room h e = let over : length bytes ≤ at = omega arith in goes_last room over e ∙ ap (λ (n : ℕ). Record n n) h
 
   pub goes_open : (room : ℕ) → length bytes ≤ at → ended ≡ false → goes_on ended at room (drop at bytes) ≡ More
   unfolding goes_on

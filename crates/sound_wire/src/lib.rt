@@ -10,15 +10,29 @@ ghost use Rattle.channel_rules.specs.Soundness.{same_minislot};
 ghost use Rattle.sound_wire.specs.Wire.{wire_carries};
 
 use asked_rows::{requests, row_of};
-use drawing::Messages;
+use drawing::{MOST_GROUPS, Messages};
 use minislot::Minislot;
 use rules::WireRow;
+
+// The minislots of a row of the wire.
+const MOST_MINISLOTS: usize = 8;
+
+fn same_minislot(a: Minislot, b: Minislot) -> bool
+    ensures { result ≡ same_minislot a b }
+{
+    a.word == b.word && a.count == b.count
+}
 
 // Whether two rows have the same minislots.
 fn same_minislots(a: &[Minislot; 8], b: &[Minislot; 8]) -> bool
     ensures { (length a.now ≡ 8) × (result ≡ every_from (λ j slot. same_minislot slot (get_or b.now j silent)) 0 a.now) }
 {
-    a == b
+    for j in 0..MOST_MINISLOTS {
+        if !same_minislot(a[j], b[j]) {
+            return false;
+        }
+    }
+    true
 }
 
 // The clause, row by row.
@@ -26,9 +40,9 @@ pub fn wire_sound(messages: &Messages, wire: &[WireRow; 8]) -> bool
     ensures { result ≡ wire_carries messages.now.items wire.now }
 {
     let asked = requests(messages);
-    for (g, row) in wire.iter().enumerate() {
+    for g in 0..MOST_GROUPS {
         let expected = row_of(asked.as_slice(), (g + 1) as u8);
-        if !same_minislots(&row.minislots, &expected) {
+        if !same_minislots(&wire[g].minislots, &expected) {
             return false;
         }
     }

@@ -1,36 +1,21 @@
 -- An index's word has the last upper half with no more patterns before it, and the lower half of the index's rank there: by one test that
 -- is computed over the 924 patterns, and carried to each of them.
 -- Assumes nothing.
-use mathlib.Core.Path.{◌≡◌, refl, sym, ap, ◌∙◌}
-use mathlib.Core.Bool.{Bool, true, false, cond, ◌&&◌, and-eq-true_iff}
-use mathlib.Core.List.{List, [], ◌∷◌}
+use mathlib.Core.Path.{◌≡◌, refl, ap, ◌∙◌}
+use mathlib.Core.Bool.{Bool, true, ◌&&◌, and-eq-true_iff}
+use mathlib.Core.List.{List}
 use Prim.Native.Nat.{ℕ, ◌+◌, ◌*◌, ◌-◌, ◌/◌, ◌≤◌, ◌<◌}
 use native.Mathlib.Omega.{arith}
 use borrow.Author.Tests.{eqb-true, leb-true, ltb-true}
 use lib.Count.{ones, ones_in}
 use lib.Dec.{eqb, leb, ltb}
 use lib.ListN.{length, get_or}
-use Rattle.std.specs.List.{count_by, filter}
-use Rattle.std.proofs.lemmas.List.Sums.{length-filter}
 use Rattle.listlaws.specs.Every.{every_from}
-use Rattle.listlaws.specs.Lists.{count_of}
 use Rattle.listlaws.proofs.Table.{every-at}
 use Rattle.pattern.specs.Patterns.{patterns, word_of}
 use Rattle.pattern.proofs.Patterns.{count_of-patterns}
 use Rattle.indexing.specs.Halves.{patterns_before}
 use Rattle.wording.specs.Lowers.{reached_of, lowers, firsts, place_of_lower}
-
--- the library's count, which goes by what is kept, is this one
-kept-count : (test : ℕ → Bool) (l : List ℕ) → length (filter test l) ≡ count_of test l
-kept-count test [] = refl
-kept-count test (x ∷ l) = go (test x) (kept-count test l)
-  where
-    go : (b : Bool) → length (filter test l) ≡ count_of test l → length (cond b (x ∷ filter test l) (filter test l)) ≡ cond b 1 0 + count_of test l
-    go true e = omega arith
-    go false e = omega arith
-
-pub count-is : (test : ℕ → Bool) (l : List ℕ) → count_by test l ≡ count_of test l
-count-is test l = sym (length-filter test l) ∙ kept-count test l
 
 pub count_of_uppers : length patterns_before ≡ 64
 unfolding patterns_before

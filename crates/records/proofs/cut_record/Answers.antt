@@ -3,7 +3,7 @@ use borrow.Author.Rules.{rules}
 use mathlib.Core.Path.{sym, ◌∙◌}
 use native.Mathlib.Omega.{arith}
 use Rattle.records.proofs.CutAnswers.{cut-answered}
-use Rattle.records.proofs.Cuts.{begins-none, begins-some, goes_last, goes_open, goes_return, goes-full, goes_feed, goes-more}
+use Rattle.records.proofs.Cuts.{begins-none, begins-some, ends_last, goes_open, goes_return, goes-full, goes_feed, goes-more}
 use Rattle.records.proofs.cut_record.Goals as goal
 
 pub returns-then-ended : goal.returns-then-ended
@@ -49,7 +49,7 @@ loop-at-preserved c =
 pub returns-then-ended-2 : goal.returns-then-ended-2
 returns-then-ended-2 c =
     let all_told = let l = c.loop-at in
-    cut-answered _ _ _ _ _ (sym (goes_last _ l.at _ l.room (omega arith) (search rules)) ∙ l.invariant) in
+    cut-answered _ _ _ _ _ (sym (ends_last _ l.at _ l.room (omega arith) (search rules)) ∙ l.invariant) in
     record { cut = all_told.0; number = all_told.1 }
 
 pub returns : goal.returns
