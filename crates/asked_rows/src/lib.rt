@@ -46,7 +46,9 @@ pub fn requests(messages: &Messages) -> Requests
     requests
 }
 
-// The row that one group's requests make. A word is looked up only for a request of the row.
+// The row that one group's requests make. A word is looked up only for a request of the row. Where it is inlined, the compiler keeps the
+// row in single words and moves all of them for each request.
+#[inline(never)]
 pub fn row_of(requests: &[WireRequest], group: u8) -> [Minislot; 8]
     ensures { result ≡ carried_row group requests.now }
 {
